@@ -1,0 +1,8 @@
+//! Exact rates of activities: positive fractions in lowest terms, active or passive.
+#![tactic(auto)]
+
+mod frac;
+mod rate;
+
+pub use frac::{Frac, RateOverflow};
+pub use rate::{Rate, RateFault};
