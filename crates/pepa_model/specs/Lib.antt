@@ -1,0 +1,9 @@
+pub mod Expression
+pub mod ExpressionCode
+pub mod Derivation
+pub mod Opened
+pub mod Apparent
+pub mod Verdict
+pub mod PepaModel
+pub mod ModelView
+pub mod Terms

@@ -1,0 +1,71 @@
+-- A model as contracts see it, and what holds of each.
+use Rattle.std.specs.Prelude.{◌≡◌, ℕ, ◌^◌, ◌<◌, ◌≤◌, Some, List, slice_get, length, codes, ⊤}
+use Rattle.std.specs.List.{AllByRecursion, AllZip}
+use Rattle.pepa_model.specs.Expression.{Expression, Const, Prefixed, Chosen, WordTerm, LeafOf, Definition, expression_of}
+use Rattle.pepa_model.specs.Derivation.{Transition, IsTransitionList}
+use Rattle.pepa_model.specs.Opened.{Opened, Opens, moves, height}
+use Rattle.pepa_model.specs.declared.term.Activity.{Activity}
+use Rattle.pepa_model.specs.declared.term.Shape2.{Shape2}
+use Rattle.pepa_model.specs.declared.term.Shape2.TheVariants.{Leaf}
+
+-- a system as it is written
+pub data Shape : Type 0 where
+  LeafShape : Expression → Shape
+
+abbrev pub shape_of : Shape2 → Shape
+shape_of (Leaf e) = LeafShape (expression_of e)
+
+-- the parts of a model: the names of its constants and of its action types, whose places are their numbers; what each
+-- constant stands for; its leaves and the activities of each; its sets of action types; and its system
+pub record PepaModel : Type 0 where
+  pub constants : List (List ℕ)
+  pub actions : List (List ℕ)
+  pub bodies : List Definition
+  pub leaves : List Expression
+  pub activities : List (List Activity)
+  pub sets : List (List ℕ)
+  pub system : Shape
+
+-- the activity is the transition of a leaf, with a leaf's number for what follows
+pub record StandsForTransition (leaves : List Expression) (activity : Activity) (transition : Transition) : Type 0 where
+  pub action : transition.action ≡ activity.action
+  pub signals : transition.signals ≡ 0
+  pub rate : transition.rate ≡ activity.rate
+  pub next : Expression
+  pub numbered : slice_get leaves activity.target ≡ Some next
+  pub target : transition.target ≡ LeafOf next
+
+-- the activities are the transition list of this leaf
+abbrev pub AreTransitionsOf : PepaModel → Expression → List Activity → Type 0
+AreTransitionsOf m e activities = (transitions : List Transition) × IsTransitionList m.bodies (LeafOf e) transitions × AllZip (StandsForTransition m.leaves) activities transitions
+
+-- the constants and action types of an expression are numbers of the model
+abbrev pub IsNamed : PepaModel → Expression → Type 0
+IsNamed m (Const c) = c < length m.constants
+IsNamed m (Prefixed a r next) = (a < length m.actions) × IsNamed m next
+IsNamed m (Chosen x y) = IsNamed m x × IsNamed m y
+
+-- what holds of each leaf: its constants open, not too deep, and its activities are those of the opened expression
+pub record IsSoundLeaf (m : PepaModel) (number : ℕ) (e : Expression) : Type 0 where
+  pub opened : Opened
+  pub opens : Opens m.bodies e opened
+  pub shallow : height opened ≤ 2 ^ 21
+  pub activities : List Activity
+  pub stored : slice_get m.activities number ≡ Some activities
+  pub stand : AllZip (StandsForTransition m.leaves) activities (moves opened)
+  pub few : length activities ≤ 65535
+  pub known : AllByRecursion (λ a. a.action < length m.actions) activities
+  pub named : IsNamed m e
+
+-- the system's component is a leaf
+abbrev pub IsLeafSystem : List Expression → Shape → Type 0
+IsLeafSystem leaves (LeafShape e) = (number : ℕ) × (slice_get leaves number ≡ Some e)
+
+-- what holds of each model
+pub record IsModel (m : PepaModel) : Type 0 where
+  pub bodies : length m.bodies ≡ length m.constants
+  pub tau : slice_get m.actions 0 ≡ Some (codes "tau")
+  pub leaves : (number : ℕ) (e : Expression) → slice_get m.leaves number ≡ Some e → IsSoundLeaf m number e
+  pub activities : length m.activities ≡ length m.leaves
+  pub few_leaves : length m.leaves ≤ 65535
+  pub system : IsLeafSystem m.leaves m.system

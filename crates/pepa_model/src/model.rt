@@ -1,0 +1,82 @@
+ghost use Rattle.std.specs.Prelude.{◌≡◌, ℕ, ◌<◌, Some, length, slice_get};
+ghost use Rattle.pepa_model.specs.Expression.{Expression, expression_of, definition_of};
+ghost use Rattle.pepa_model.specs.PepaModel.{IsModel, AreTransitionsOf};
+
+use crate::name::Name;
+use crate::term::{
+    Activity, ActivityLists, Bodies, Body, Sequential, SequentialList, Shape2, Words32List,
+};
+use indexmap::IndexMap;
+
+/// The greatest number of operators and constants that stand above one another in a leaf: each of at most 1,024 constants
+/// once, with a body of at most 2,048 tokens each.
+pub const MAX_HEIGHT: u32 = 2_097_152;
+
+/// A PEPA model that passed every check.
+///
+/// Contracts see it as the record of its parts. Constants, action types and leaves are numbered by their places; action 0
+/// is `tau`.
+#[derive(Drop)]
+pub struct Model {
+    pub constants: IndexMap<Name, ()>,
+    pub actions: IndexMap<Name, ()>,
+    pub bodies: Bodies,
+    pub leaves: SequentialList,
+    pub activities: ActivityLists,
+    pub sets: Words32List,
+    pub system: Shape2,
+}
+
+impl std::marker::Model for Model {
+    ghost use Rattle.pepa_model.specs.PepaModel.{PepaModel};
+
+    ghost use Rattle.pepa_model.specs.ExpressionCode.{expression_code};
+    ghost use Rattle.std.specs.Coded.{codes};
+
+    ghost Value = { PepaModel };
+
+    ghost coded = { Prim.hlevel (codes, expression_code) };
+
+    ghost use Rattle.pepa_model.specs.ModelView.{model_view, IsModelInside};
+
+    ghost view = { model_view };
+
+    ghost invariant = { IsModelInside };
+}
+
+impl Model {
+    /// The model's invariant, for a caller that needs it.
+    pub fn is_sound(&self)
+        ensures { IsModel self.now }
+    {
+        let _sets = &self.sets;
+    }
+
+    /// A leaf's expression.
+    pub fn leaf(&self, leaf: u32) -> &Sequential
+        requires { leaf < length self.now.leaves }
+        ensures { slice_get self.now.leaves leaf ≡ Some (expression_of result.now) }
+    {
+        let leaves = &self.leaves;
+        &leaves.as_slice()[leaf as usize]
+    }
+
+    /// What a constant stands for.
+    pub fn body(&self, constant: u32) -> &Body
+        requires { constant < length self.now.bodies }
+        ensures { slice_get self.now.bodies constant ≡ Some (definition_of result.now) }
+    {
+        let bodies = &self.bodies;
+        &bodies.as_slice()[constant as usize]
+    }
+
+    /// The activities of a leaf, in derivation order.
+    pub fn activities(&self, leaf: u32) -> &[Activity]
+        requires { leaf < length self.now.leaves }
+        ensures stored { slice_get self.now.activities leaf ≡ Some result.now }
+        ensures transitions { (e : Expression) → slice_get self.now.leaves leaf ≡ Some e → AreTransitionsOf self.now e result.now }
+    {
+        let lists = &self.activities;
+        lists.as_slice()[leaf as usize].as_slice()
+    }
+}

@@ -1,0 +1,97 @@
+ghost use Rattle.std.specs.Prelude.{◌≡◌, ◌<◌, ◌^◌, IfOk};
+ghost use Rattle.pepa_model.specs.Terms.{leaf_count_of};
+
+use pepa_rates::Rate;
+use sqlite_items::Items;
+use std::alloc::{AllocError, Global};
+
+/// A sequential component: what one participant can do.
+#[derive(Debug, Drop)]
+pub enum Sequential {
+    /// The constant of this number, which stands for its body.
+    Constant(u32),
+    /// An activity, by its action type's number and its rate, and what follows it.
+    Prefix(u32, Rate, Box<Sequential>),
+    /// A choice between two components.
+    Choice(Box<Sequential>, Box<Sequential>),
+}
+
+/// A system, as it is written.
+#[derive(Debug, Drop)]
+pub enum Shape2 {
+    /// A sequential component.
+    Leaf(Sequential),
+}
+
+/// The right side of a constant's line.
+#[derive(Debug, Drop)]
+pub enum Body {
+    /// A sequential component.
+    Plain(Sequential),
+}
+
+/// A state of a system: its sequential components are leaves, by their numbers.
+#[derive(Debug, Drop)]
+pub enum Term {
+    /// The leaf of this number.
+    Leaf(u32),
+}
+
+impl Term {
+    /// An equal term.
+    pub fn copy(&self, _alloc: Global) -> Result<Term, AllocError>
+        ensures { IfOk result (λ term. term ≡ self.now) }
+    {
+        match self {
+            Term::Leaf(leaf) => Ok(Term::Leaf(*leaf)),
+        }
+    }
+}
+
+/// How many leaves of the term are the leaf of this number.
+pub fn leaf_count(term: &Term, leaf: u32) -> u32
+    requires { leaf_count_of term.now leaf < 2 ^ 32 }
+    ensures { result ≡ leaf_count_of term.now leaf }
+{
+    match term {
+        Term::Leaf(number) => u32::from(*number == leaf),
+    }
+}
+
+/// An activity that a leaf can perform: its action type's number, its rate, and the leaf that follows.
+#[derive(Clone, Copy, Debug)]
+pub struct Activity {
+    pub action: u32,
+    pub rate: Rate,
+    pub target: u32,
+}
+
+/// A transition of a term: its action type's number, its signals (bit l for label l), its rate, and the term after it.
+#[derive(Debug, Drop)]
+pub struct Step {
+    pub action: u32,
+    pub signals: u64,
+    pub rate: Rate,
+    pub target: Term,
+}
+
+/// The bodies of the constants, in the order of their numbers.
+pub type Bodies = Items<Body>;
+
+/// The leaves, in the order of their numbers.
+pub type SequentialList = Items<Sequential>;
+
+/// The activities of one leaf, in derivation order.
+pub type ActivityList = Items<Activity>;
+
+/// The activities of each leaf.
+pub type ActivityLists = Items<ActivityList>;
+
+/// Numbers of 32 bits.
+pub type Words32 = Items<u32>;
+
+/// Lists of numbers of 32 bits.
+pub type Words32List = Items<Words32>;
+
+/// The transitions of a term, in derivation order.
+pub type StepList = Items<Step>;
