@@ -7,7 +7,7 @@ pub record Fraction : Type 0 where
   pub den : ℕ
 
 -- Euclid's algorithm (Elements VII.2), in at most so many divisions
-pub gcd_within : ℕ → ℕ → ℕ → ℕ
+unfoldable pub gcd_within : ℕ → ℕ → ℕ → ℕ
 gcd_within zero a b = a
 gcd_within (suc steps) a zero = a
 gcd_within (suc steps) a (suc b) = gcd_within steps (suc b) (a % suc b)
