@@ -28,6 +28,10 @@ InRange q = (q.num < 2 ^ 42) × (q.den < 2 ^ 42)
 abbrev pub SameNumber : Fraction → Fraction → Type 0
 SameNumber p q = p.num * q.den ≡ q.num * p.den
 
+-- numerator and denominator are at least 1
+abbrev pub IsPositive : Fraction → Type 0
+IsPositive q = (0 < q.num) × (0 < q.den)
+
 -- what every fraction of the program is: positive, in lowest terms, and in range
 pub record IsProper (q : Fraction) : Type 0 where
   pub positive : 0 < q.num
