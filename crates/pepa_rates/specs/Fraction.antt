@@ -7,7 +7,7 @@ pub record Fraction : Type 0 where
   pub den : ℕ
 
 -- Euclid's algorithm (Elements VII.2), in at most so many divisions
-pub gcd_within : ℕ → ℕ → ℕ → ℕ
+unfoldable pub gcd_within : ℕ → ℕ → ℕ → ℕ
 gcd_within zero a b = a
 gcd_within (suc steps) a zero = a
 gcd_within (suc steps) a (suc b) = gcd_within steps (suc b) (a % suc b)
@@ -27,6 +27,10 @@ InRange q = (q.num < 2 ^ 42) × (q.den < 2 ^ 42)
 -- two fractions are the same number: their cross products are equal
 abbrev pub SameNumber : Fraction → Fraction → Type 0
 SameNumber p q = p.num * q.den ≡ q.num * p.den
+
+-- numerator and denominator are at least 1
+abbrev pub IsPositive : Fraction → Type 0
+IsPositive q = (0 < q.num) × (0 < q.den)
 
 -- what every fraction of the program is: positive, in lowest terms, and in range
 pub record IsProper (q : Fraction) : Type 0 where

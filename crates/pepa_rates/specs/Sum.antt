@@ -1,6 +1,6 @@
 -- Sums of rates (Hillston, A Compositional Approach to Performance Modelling, 1996, section 3.3.2): two rates of one
 -- kind add up, and an active and a passive one have no sum.
-use Rattle.std.specs.Prelude.{◌≡◌, ◌+◌, ◌*◌, Result}
+use Rattle.std.specs.Prelude.{◌≡◌, ◌+◌, ◌*◌, Result, Ok, Err}
 use Rattle.pepa_rates.specs.Fraction.{Fraction, reduced, InRange}
 use Rattle.pepa_rates.specs.declared.rate.Rate.{Rate}
 use Rattle.pepa_rates.specs.declared.rate.Rate.TheVariants.{Active, Passive}
@@ -27,3 +27,16 @@ rate_sum (Passive p) (Active q) = NoSum
 abbrev pub fraction_of : Rate → Fraction
 fraction_of (Active q) = q
 fraction_of (Passive q) = q
+
+-- the result for a sum: the sum itself if it is in range, and why it is refused if not
+abbrev pub Gives : Sum → Result Rate RateFault → Type 0
+Gives (Adds rate) (Ok r) = r ≡ rate
+Gives (Adds rate) (Err Overflow) = ¬ InRange (fraction_of rate)
+Gives (Adds rate) (Err Mixed) = ⊥
+Gives NoSum (Ok r) = ⊥
+Gives NoSum (Err Mixed) = Unit {0}
+Gives NoSum (Err Overflow) = ⊥
+
+-- the result of adding two rates
+abbrev pub IsSumOf : Rate → Rate → Result Rate RateFault → Type 0
+IsSumOf a b result = Gives (rate_sum a b) result

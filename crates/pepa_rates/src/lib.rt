@@ -2,6 +2,7 @@
 #![tactic(auto)]
 
 mod frac;
+pub mod laws;
 mod rate;
 
 pub use frac::{Frac, RateOverflow};
