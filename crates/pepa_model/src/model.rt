@@ -1,10 +1,10 @@
 ghost use Rattle.std.specs.Prelude.{◌≡◌, ℕ, ◌<◌, Some, length, slice_get};
-ghost use Rattle.pepa_model.specs.Expression.{Expression, expression_of, definition_of};
+ghost use Rattle.pepa_model.specs.Expression.{Expression, Defines, expression_of};
 ghost use Rattle.pepa_model.specs.PepaModel.{IsModel, AreTransitionsOf};
 
 use crate::name::Name;
 use crate::term::{
-    Activity, ActivityLists, Bodies, Body, Sequential, SequentialList, Shape2, Words32List,
+    Activity, ActivityLists, Bodies, Sequential, SequentialList, Shape2, Words32List,
 };
 use indexmap::IndexMap;
 
@@ -61,13 +61,13 @@ impl Model {
         &leaves.as_slice()[leaf as usize]
     }
 
-    /// What a constant stands for.
-    pub fn body(&self, constant: u32) -> &Body
+    /// The component that a constant stands for.
+    pub fn body(&self, constant: u32) -> &Sequential
         requires { constant < length self.now.bodies }
-        ensures { slice_get self.now.bodies constant ≡ Some (definition_of result.now) }
+        ensures { Defines self.now.bodies constant (expression_of result.now) }
     {
         let bodies = &self.bodies;
-        &bodies.as_slice()[constant as usize]
+        bodies.as_slice()[constant as usize].component()
     }
 
     /// The activities of a leaf, in derivation order.

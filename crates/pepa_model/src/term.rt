@@ -1,4 +1,5 @@
 ghost use Rattle.std.specs.Prelude.{◌≡◌, ◌<◌, ◌^◌, IfOk};
+ghost use Rattle.pepa_model.specs.Expression.{Sequentially, expression_of, definition_of};
 ghost use Rattle.pepa_model.specs.Terms.{leaf_count_of};
 
 use pepa_rates::Rate;
@@ -37,7 +38,27 @@ pub enum Term {
     Leaf(u32),
 }
 
+impl Body {
+    /// The component on the right side.
+    pub fn component(&self) -> &Sequential
+        ensures { definition_of self.now ≡ Sequentially (expression_of result.now) }
+    {
+        match self {
+            Body::Plain(component) => component,
+        }
+    }
+}
+
 impl Term {
+    /// The number of a term that is one leaf.
+    pub fn leaf(&self) -> u32
+        ensures { self.now ≡ Term.Leaf result }
+    {
+        match self {
+            Term::Leaf(leaf) => *leaf,
+        }
+    }
+
     /// An equal term.
     pub fn copy(&self, _alloc: Global) -> Result<Term, AllocError>
         ensures { IfOk result (λ term. term ≡ self.now) }

@@ -30,7 +30,7 @@ fraction_of (Passive q) = q
 
 -- the result for a sum: the sum itself if it is in range, and why it is refused if not
 abbrev pub Gives : Sum → Result Rate RateFault → Type 0
-Gives (Adds rate) (Ok r) = r ≡ rate
+Gives (Adds rate) (Ok r) = (r ≡ rate) × InRange (fraction_of rate)
 Gives (Adds rate) (Err Overflow) = ¬ InRange (fraction_of rate)
 Gives (Adds rate) (Err Mixed) = ⊥
 Gives NoSum (Ok r) = ⊥

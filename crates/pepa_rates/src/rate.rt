@@ -21,6 +21,18 @@ pub enum RateFault {
 }
 
 impl Rate {
+    ghost use Rattle.pepa_rates.specs.Fraction.{IsProper};
+    ghost use Rattle.pepa_rates.specs.Sum.{fraction_of};
+
+    /// Costs nothing, and tells a proof what every rate keeps.
+    pub fn valid(&self)
+        ensures { IsProper (fraction_of self.now) }
+    {
+        match self {
+            Rate::Active(q) | Rate::Passive(q) => q.valid(),
+        }
+    }
+
     /// The exact sum of two rates of one kind, in lowest terms.
     pub fn add(&self, other: &Rate) -> Result<Rate, RateFault>
         ensures { IsSumOf self.now other.now result }
@@ -37,10 +49,12 @@ impl Rate {
 
 // No product here passes 2^84, since each factor is below 2^42.
 fn exact_sum(p: &Frac, q: &Frac) -> Result<Frac, RateFault>
-    ensures { MatchResult result (λ sum. sum ≡ sum_of p.now q.now) (λ e. (e ≡ RateFault.Overflow) × ¬ InRange (sum_of p.now q.now)) }
+    ensures { MatchResult result (λ sum. (sum ≡ sum_of p.now q.now) × InRange (sum_of p.now q.now)) (λ e. (e ≡ RateFault.Overflow) × ¬ InRange (sum_of p.now q.now)) }
 {
     let p_den = u128::from(p.den);
     let q_den = u128::from(q.den);
     let num = u128::from(p.num) * q_den + u128::from(q.num) * p_den;
-    Frac::make(num, p_den * q_den).map_err(|_| RateFault::Overflow)
+    let sum = Frac::make(num, p_den * q_den).map_err(|_| RateFault::Overflow)?;
+    sum.valid();
+    Ok(sum)
 }

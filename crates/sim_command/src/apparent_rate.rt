@@ -1,0 +1,58 @@
+//! The apparent rate of one action type.
+ghost use Rattle.std.specs.Prelude.{◌≡◌, ◌<◌, Result, Option};
+ghost use Rattle.pepa_model.specs.Expression.{expression_of};
+ghost use Rattle.pepa_model.specs.Opened.{Opened, Opens};
+ghost use Rattle.pepa_model.specs.Terms.{IsTermOf};
+ghost use Rattle.sim_command.specs.ApparentAnswers.{AnswersApparent, AnswersOpened, CanOpen, IsTogether};
+
+use pepa_model::{MAX_HEIGHT, Model, Sequential, Term};
+use pepa_rates::{Rate, RateFault};
+
+/// The apparent rate of an action type (Hillston 1996, section 3.3.3): `None` where the term doesn't perform it.
+///
+/// The fault is that of the first part, in post-order, where the rate of this action isn't defined or isn't in range.
+pub fn apparent(model: &Model, term: &Term, action: u32) -> Result<Option<Rate>, RateFault>
+    requires of_model { IsTermOf model.now term.now }
+    requires no_tau { 0 < action }
+    ensures { AnswersApparent model.now term.now action result }
+{
+    model.is_sound();
+    component_rate(model, model.leaf(term.leaf()), action, MAX_HEIGHT)
+}
+
+// The apparent rate of a component that opens into a tree of at most this height.
+fn component_rate(
+    model: &Model,
+    component: &Sequential,
+    action: u32,
+    depth: u32,
+) -> Result<Option<Rate>, RateFault>
+    requires { CanOpen model.now.bodies (expression_of component.now) depth }
+    ensures { (o : Opened) → Opens model.now.bodies (expression_of component.now) o → AnswersOpened o action result }
+{
+    match component {
+        Sequential::Prefix(own, rate, _next) => {
+            rate.valid();
+            Ok((*own == action).then_some(*rate))
+        }
+        Sequential::Choice(left, right) => {
+            let left = component_rate(model, left, action, depth - 1)?;
+            let right = component_rate(model, right, action, depth - 1)?;
+            rate_together(left, right)
+        }
+        Sequential::Constant(constant) => {
+            component_rate(model, model.body(*constant), action, depth - 1)
+        }
+    }
+}
+
+// The apparent rate of a choice, of those of its operands.
+fn rate_together(left: Option<Rate>, right: Option<Rate>) -> Result<Option<Rate>, RateFault>
+    ensures { IsTogether left right result }
+{
+    match (left, right) {
+        (Some(left), Some(right)) => Ok(Some(left.add(&right)?)),
+        (left, None) => Ok(left),
+        (None, right) => Ok(right),
+    }
+}
