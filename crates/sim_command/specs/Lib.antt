@@ -1,1 +1,2 @@
 pub mod ApparentAnswers
+pub mod ActionRates
