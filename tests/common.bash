@@ -26,7 +26,7 @@ skipped() {
 }
 
 finish() {
-    printf '%d passed, %d failed\n' "$passes" "$failures"
+    printf 'cases as wanted: %d of %d\n' "$passes" "$((passes + failures))"
     [ "$failures" -eq 0 ]
     exit
 }
