@@ -1,0 +1,36 @@
+#!/usr/bin/env bash
+# Runs `pepaprobe steps` on each model of examples/ and compares the bytes of both streams and the status with the files
+# beside it, which were worked out by hand (examples/README.md).
+# shellcheck source=tests/common.bash
+. "$(dirname -- "$0")/common.bash"
+build_program
+
+: >"$work/nothing"
+count=0
+for model in examples/*.pepa; do
+    [ -f "$model" ] || continue
+    count=$((count + 1))
+    base=${model%.pepa}
+    wanted=0
+    [ ! -f "$base.status" ] || wanted=$(cat "$base.status")
+    wanted_out=$base.steps
+    [ -f "$wanted_out" ] || wanted_out=$work/nothing
+    wanted_err=$base.err
+    [ -f "$wanted_err" ] || wanted_err=$work/nothing
+
+    if [ "$wanted" -eq 0 ] && [ ! -f "$base.steps" ]; then
+        failed "$model: there is no $base.steps beside it"
+        continue
+    fi
+    bin/pepaprobe steps <"$model" >"$work/out" 2>"$work/err"
+    ended=$?
+    told "$model" "$wanted" "$wanted_out" "$wanted_err"
+done
+[ "$count" -gt 0 ] || failed "examples/ has no model"
+
+# Each file beside a model belongs to one.
+for file in examples/*.steps examples/*.status examples/*.err; do
+    [ -f "$file" ] || continue
+    [ -f "${file%.*}.pepa" ] || failed "$file: there is no model ${file%.*}.pepa"
+done
+finish
