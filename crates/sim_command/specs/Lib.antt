@@ -1,2 +1,3 @@
 pub mod ApparentAnswers
 pub mod ActionRates
+pub mod StepsAnswers

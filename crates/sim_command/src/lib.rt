@@ -3,5 +3,7 @@
 
 mod action_rates;
 mod apparent_rate;
+mod transitions;
 
 pub use apparent_rate::apparent;
+pub use transitions::{StepFault, StepsEnd, steps};
