@@ -1,3 +1,4 @@
 pub mod PiecesLemmas
 pub mod NumberLemmas
 pub mod SmallTextLemmas
+pub mod SmallReadingLemmas

@@ -1,10 +1,9 @@
 -- The first piece of a text.
-use Rattle.std.proofs.Common.{◌≡◌, ℕ, suc, ◌+◌, Bool, true, false, cond, List, [], ◌∷◌, length, take, drop, refl, sym, ap, ◌∙◌, arith, inl, inr}
-use Rattle.std.specs.Prelude.{IsFalse, not}
+use Rattle.std.proofs.Common.{◌≡◌, ℕ, suc, ◌+◌, Bool, true, false, cond, List, [], ◌∷◌, length, take, drop, refl, sym, ap, ◌∙◌, arith}
 use Rattle.std.specs.List.{filter_map, prefix_len}
 use Rattle.std.proofs.lemmas.List.{nil_from_length}
 use Rattle.std.proofs.lemmas.Bool.Decides.{nat_tests}
-use Rattle.sim_command.specs.Pieces.{is_space, is_word_byte, is_sign, Run, Word, Byte, with_word_byte, runs_of, Sign, Other, piece_of_word, piece_of_run, pieces_of}
+use Rattle.sim_command.specs.Pieces.{is_space, is_word_byte, is_sign, Word, with_word_byte, runs_of, Sign, Other, piece_of_word, piece_of_run, pieces_of}
 
 is_word_byte-space : (byte : ℕ) → is_space byte ≡ true → is_word_byte byte ≡ false
 is_word_byte-space byte h = grind (arith, nat_tests)
@@ -24,21 +23,21 @@ pieces_of-after_spaces : (text : List ℕ) → pieces_of (drop (prefix_len is_sp
 pieces_of-after_spaces [] = refl
 pieces_of-after_spaces (byte ∷ text) = after (is_space byte) refl (pieces_of-after_spaces text)
   where
-  after : (b : Bool) → is_space byte ≡ b → pieces_of (drop (prefix_len is_space text) text) ≡ pieces_of text → pieces_of (drop (prefix_len is_space (byte ∷ text)) (byte ∷ text)) ≡ pieces_of (byte ∷ text)
-  after true h ih = rw (h, drop-one-more byte text (prefix_len is_space text), ih) (sym (pieces_of-space byte text h))
-  after false h ih = rw h refl
+    after : (b : Bool) → is_space byte ≡ b → pieces_of (drop (prefix_len is_space text) text) ≡ pieces_of text → pieces_of (drop (prefix_len is_space (byte ∷ text)) (byte ∷ text)) ≡ pieces_of (byte ∷ text)
+    after true h ih = rw (h, drop-one-more byte text (prefix_len is_space text), ih) (sym (pieces_of-space byte text h))
+    after false h ih = rw h refl
 
 -- a longest run of word bytes in front is the first run
 runs_of-word : (byte : ℕ) (text : List ℕ) → is_word_byte byte ≡ true → runs_of (byte ∷ text) ≡ Word (byte ∷ take (prefix_len is_word_byte text) text) ∷ runs_of (drop (prefix_len is_word_byte text) text)
 runs_of-word byte [] h = rw h refl
 runs_of-word byte (next ∷ text) h = after (is_word_byte next) refl (runs_of-word next text)
   where
-  after : (b : Bool) → is_word_byte next ≡ b → (is_word_byte next ≡ true → runs_of (next ∷ text) ≡ Word (next ∷ take (prefix_len is_word_byte text) text) ∷ runs_of (drop (prefix_len is_word_byte text) text)) → runs_of (byte ∷ next ∷ text) ≡ Word (byte ∷ take (prefix_len is_word_byte (next ∷ text)) (next ∷ text)) ∷ runs_of (drop (prefix_len is_word_byte (next ∷ text)) (next ∷ text))
-  after true k ih =
-      let front : runs_of (byte ∷ next ∷ text) ≡ with_word_byte byte (runs_of (next ∷ text)) = rw h refl in
-      let back : Word (byte ∷ next ∷ take (prefix_len is_word_byte text) text) ∷ runs_of (drop (prefix_len is_word_byte text) text) ≡ Word (byte ∷ take (prefix_len is_word_byte (next ∷ text)) (next ∷ text)) ∷ runs_of (drop (prefix_len is_word_byte (next ∷ text)) (next ∷ text)) = rw (k, take-one-more next text (prefix_len is_word_byte text), drop-one-more next text (prefix_len is_word_byte text)) refl in
-      front ∙ ap (with_word_byte byte) (ih k) ∙ back
-  after false k ih = rw (h, k, k) refl
+    after : (b : Bool) → is_word_byte next ≡ b → (is_word_byte next ≡ true → runs_of (next ∷ text) ≡ Word (next ∷ take (prefix_len is_word_byte text) text) ∷ runs_of (drop (prefix_len is_word_byte text) text)) → runs_of (byte ∷ next ∷ text) ≡ Word (byte ∷ take (prefix_len is_word_byte (next ∷ text)) (next ∷ text)) ∷ runs_of (drop (prefix_len is_word_byte (next ∷ text)) (next ∷ text))
+    after true k ih =
+        let front : runs_of (byte ∷ next ∷ text) ≡ with_word_byte byte (runs_of (next ∷ text)) = rw h refl in
+        let back : Word (byte ∷ next ∷ take (prefix_len is_word_byte text) text) ∷ runs_of (drop (prefix_len is_word_byte text) text) ≡ Word (byte ∷ take (prefix_len is_word_byte (next ∷ text)) (next ∷ text)) ∷ runs_of (drop (prefix_len is_word_byte (next ∷ text)) (next ∷ text)) = rw (k, take-one-more next text (prefix_len is_word_byte text), drop-one-more next text (prefix_len is_word_byte text)) refl in
+        front ∙ ap (with_word_byte byte) (ih k) ∙ back
+    after false k ih = rw (h, k, k) refl
 
 -- a word in front is the first piece
 pieces_of-word : (byte : ℕ) (text : List ℕ) → is_word_byte byte ≡ true → pieces_of (byte ∷ text) ≡ piece_of_word (take (prefix_len is_word_byte (byte ∷ text)) (byte ∷ text)) ∷ pieces_of (drop (prefix_len is_word_byte (byte ∷ text)) (byte ∷ text))
@@ -58,13 +57,13 @@ first_after_spaces : (text : List ℕ) (byte : ℕ) (rest : List ℕ) → drop (
 first_after_spaces [] byte rest e = absurd cc
 first_after_spaces (first ∷ text) byte rest e = after (is_space first) refl e (first_after_spaces text byte rest)
   where
-  after : (b : Bool) → is_space first ≡ b → drop (prefix_len is_space (first ∷ text)) (first ∷ text) ≡ byte ∷ rest → (drop (prefix_len is_space text) text ≡ byte ∷ rest → is_space byte ≡ false) → is_space byte ≡ false
-  after true h e inner =
-      inner (rw (h, drop-one-more first text (prefix_len is_space text)) at e)
-  after false h e inner =
-      let same : first ∷ text ≡ byte ∷ rest = rw h at e in
-      let one : first ≡ byte = cc in
-      rw (← one) h
+    after : (b : Bool) → is_space first ≡ b → drop (prefix_len is_space (first ∷ text)) (first ∷ text) ≡ byte ∷ rest → (drop (prefix_len is_space text) text ≡ byte ∷ rest → is_space byte ≡ false) → is_space byte ≡ false
+    after true h e inner =
+        inner (rw (h, drop-one-more first text (prefix_len is_space text)) at e)
+    after false h e inner =
+        let same : first ∷ text ≡ byte ∷ rest = rw h at e in
+        let one : first ≡ byte = cc in
+        rw (← one) h
 
 -- the first piece behind the white space, where a text ends, a word begins, or another byte stands
 pub pieces_of-end : (text dark : List ℕ) → dark ≡ drop (prefix_len is_space text) text → length dark ≡ 0 → pieces_of text ≡ []

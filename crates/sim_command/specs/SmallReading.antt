@@ -1,5 +1,5 @@
 -- What the readers of the parts of a text answer.
-use Rattle.std.specs.Prelude.{◌≡◌, ◌≢◌, ℕ, ◌≤◌, List, [], ◌∷◌, ◌++◌, length, Result, Ok, Err}
+use Rattle.std.specs.Prelude.{◌≡◌, ◌≢◌, ◌≤◌, List, [], ◌∷◌, ◌++◌, length, Result, Ok, Err}
 use Rattle.std.specs.List.{AllByRecursion}
 use Rattle.sim_command.specs.Pieces.{Piece, semicolon}
 use Rattle.sim_command.specs.SmallText.{IsInRange, prefixes_spelling}

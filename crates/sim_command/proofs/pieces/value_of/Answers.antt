@@ -1,4 +1,4 @@
-use Rattle.std.proofs.Common.{◌*◌, ◌+◌, ◌-◌, ◌<◌, ◌^◌, get_or, refl, arith}
+use Rattle.std.proofs.Common.{◌-◌, get_or, refl, arith}
 use Rattle.sim_command.proofs.NumberLemmas.{value_fits, value_more}
 use Rattle.sim_command.proofs.pieces.value_of.Goals as goal
 
