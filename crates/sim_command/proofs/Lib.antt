@@ -3,3 +3,7 @@ pub mod Opening
 pub mod ApparentRates
 pub mod RateMaps
 pub mod ComponentRates
+pub mod PiecesLemmas
+pub mod NumberLemmas
+pub mod SmallTextLemmas
+pub mod SmallReadingLemmas

@@ -3,6 +3,8 @@
 
 mod action_rates;
 mod apparent_rate;
+mod pieces;
+mod small_text;
 mod transitions;
 
 pub use apparent_rate::apparent;
