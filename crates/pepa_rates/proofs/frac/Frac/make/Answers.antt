@@ -1,5 +1,5 @@
-use Rattle.std.proofs.Common.{arith, ◌≡◌, ◌<◌, ◌≤◌, ℕ, ◌/◌, ap, ◌∙◌, sym, refl}
-use Rattle.pepa_rates.specs.Fraction.{Fraction, gcd, reduced, InRange, IsProper}
+use Rattle.std.proofs.Common.{arith, ◌/◌, ap, refl}
+use Rattle.pepa_rates.specs.Fraction.{reduced}
 use Rattle.pepa_rates.proofs.Divisors.{gcd-pos}
 use Rattle.pepa_rates.proofs.LowestTerms.{reduced-IsProper}
 use Rattle.pepa_rates.proofs.frac.Frac.make.Goals as goal
