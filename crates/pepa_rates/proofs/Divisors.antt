@@ -1,9 +1,9 @@
 -- Greatest common divisors: Euclid's algorithm finds them, a common factor may be taken out, and Gauss's lemma.
-use Rattle.std.proofs.Common.{◌≡◌, ℕ, zero, suc, ◌+◌, ◌*◌, ◌/◌, ◌%◌, ◌<◌, ◌≤◌, arith, refl, sym, ◌∙◌, ap, subst}
+use Rattle.std.proofs.Common.{◌≡◌, ℕ, zero, suc, ◌+◌, ◌*◌, ◌/◌, ◌%◌, ◌<◌, arith, refl, sym, ◌∙◌, ap, subst}
 use Rattle.std.specs.Int.{IsGcd, ◌∣◌}
 use Rattle.std.proofs.lemmas.Nat.{mod_below}
 use Rattle.std.proofs.lemmas.Nat.Gcd.{IsGcd-from_zero, IsGcd-from_mod, dvd_antisymm}
-use Rattle.std.proofs.Math.Nat.{pos_of_dvd_of_pos, dvd-mul_left, dvd-mul_right, mul-dvd-mul_left, dvd_of_mul-dvd-mul_left, mul-div_cancel', mul_comm}
+use Rattle.std.proofs.Math.Nat.{pos_of_dvd_of_pos, dvd-mul_left, dvd-mul_right, mul-dvd-mul_left, dvd_of_mul-dvd-mul_left, mul-div_cancel'}
 use Rattle.pepa_rates.specs.Fraction.{gcd, gcd_within}
 
 gcd_within-IsGcd : (k a b : ℕ) → b < k → IsGcd a b (gcd_within k a b)

@@ -1,8 +1,8 @@
 -- Fractions in lowest terms: one form for each number.
-use Rattle.std.proofs.Common.{◌≡◌, ℕ, zero, suc, ◌+◌, ◌*◌, ◌/◌, ◌^◌, ◌<◌, ◌≤◌, ◌↔◌, arith, refl, sym, ◌∙◌, ap, subst}
+use Rattle.std.proofs.Common.{◌≡◌, ℕ, zero, suc, ◌*◌, ◌/◌, ◌^◌, ◌<◌, arith, sym, ◌∙◌, ap, subst}
 use Rattle.std.specs.Int.{◌∣◌}
 use Rattle.std.proofs.lemmas.Nat.Gcd.{dvd_antisymm}
-use Rattle.std.proofs.Math.Nat.{dvd-mul_left, dvd-mul_right, mul-div_cancel', eq_of_mul-eq-mul_left, mul-div-mul_left, mul_comm}
+use Rattle.std.proofs.Math.Nat.{dvd-mul_right, mul-div_cancel', eq_of_mul-eq-mul_left}
 use Rattle.pepa_rates.specs.Fraction.{Fraction, gcd, reduced, IsProper}
 use Rattle.pepa_rates.proofs.Divisors.{gcd-IsGcd, gcd-pos, gcd-mul_left, dvd_of_coprime}
 

@@ -1,5 +1,5 @@
 -- Exact sums: the order and the brackets don't matter.
-use Rattle.std.proofs.Common.{◌≡◌, ℕ, ◌+◌, ◌*◌, ◌/◌, ◌<◌, arith, refl, sym, ◌∙◌, ap}
+use Rattle.std.proofs.Common.{◌≡◌, ℕ, ◌+◌, ◌*◌, ◌/◌, ◌<◌, arith, sym, ◌∙◌, ap}
 use Rattle.std.proofs.Math.Nat.{mul-div-mul_left, mul-pos}
 use Rattle.pepa_rates.specs.Fraction.{Fraction, gcd, reduced, IsPositive}
 use Rattle.pepa_rates.specs.Sum.{sum_of}

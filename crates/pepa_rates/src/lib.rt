@@ -7,3 +7,6 @@ mod rate;
 
 pub use frac::{Frac, RateOverflow};
 pub use rate::{Rate, RateFault};
+
+#[cfg(test)]
+mod tests;

@@ -1,6 +1,6 @@
 ghost use Rattle.std.specs.Prelude.{◌≡◌, MatchResult};
-ghost use Rattle.pepa_rates.specs.Fraction.{InRange};
-ghost use Rattle.pepa_rates.specs.Sum.{sum_of, IsSumOf};
+ghost use Rattle.pepa_rates.specs.Fraction.{InRange, IsProper};
+ghost use Rattle.pepa_rates.specs.Sum.{sum_of, fraction_of, IsSumOf};
 
 use crate::frac::Frac;
 
@@ -43,6 +43,15 @@ impl Rate {
             (Rate::Active(_), Rate::Passive(_)) | (Rate::Passive(_), Rate::Active(_)) => {
                 Err(RateFault::Mixed)
             }
+        }
+    }
+
+    /// Costs nothing, and tells a proof what every rate keeps.
+    pub fn valid(&self)
+        ensures { IsProper (fraction_of self.now) }
+    {
+        match self {
+            Rate::Active(fraction) | Rate::Passive(fraction) => fraction.valid(),
         }
     }
 }

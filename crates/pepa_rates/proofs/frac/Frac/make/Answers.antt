@@ -1,14 +1,14 @@
-use Rattle.std.proofs.Common.{arith, ◌≡◌, ◌<◌, ◌≤◌, ℕ, ◌/◌, ap, ◌∙◌, sym, refl}
-use Rattle.pepa_rates.specs.Fraction.{Fraction, gcd, reduced, InRange, IsProper}
+use Rattle.std.proofs.Common.{arith, ◌/◌, ap, refl}
+use Rattle.pepa_rates.specs.Fraction.{reduced}
 use Rattle.pepa_rates.proofs.Divisors.{gcd-pos}
 use Rattle.pepa_rates.proofs.LowestTerms.{reduced-IsProper}
 use Rattle.pepa_rates.proofs.frac.Frac.make.Goals as goal
 
 pub nonzero_div-num : goal.nonzero_div-num
-nonzero_div-num c = rw c.common_divisor-divisor.ensures (gcd-pos c.args.n c.args.d c.requires.numerator)
+nonzero_div-num c = rw c.common_divisor-divisor.ensures (gcd-pos _ _ c.requires.numerator)
 
 pub nonzero_div-den : goal.nonzero_div-den
-nonzero_div-den c = rw c.common_divisor-divisor.ensures (gcd-pos c.args.n c.args.d c.requires.numerator)
+nonzero_div-den c = rw c.common_divisor-divisor.ensures (gcd-pos _ _ c.requires.numerator)
 
 pub returns-then-num-ge-PART_LIMIT : goal.returns-then-num-ge-PART_LIMIT
 unfolding reduced
@@ -20,7 +20,7 @@ returns-then-num-ge-PART_LIMIT c h =
 pub invariant_of-result : goal.invariant_of-result
 invariant_of-result c =
     reduced-IsProper c.args.n c.args.d _ c.common_divisor-divisor.ensures c.requires.numerator c.requires.denominator
-    c.if-num-ge-PART_LIMIT.false c.if-den-ge-PART_LIMIT.false
+    (omega arith) (omega arith)
 
 pub returns : goal.returns
 unfolding reduced
