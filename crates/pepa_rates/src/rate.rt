@@ -21,18 +21,6 @@ pub enum RateFault {
 }
 
 impl Rate {
-    ghost use Rattle.pepa_rates.specs.Fraction.{IsProper};
-    ghost use Rattle.pepa_rates.specs.Sum.{fraction_of};
-
-    /// Costs nothing, and tells a proof what every rate keeps.
-    pub fn valid(&self)
-        ensures { IsProper (fraction_of self.now) }
-    {
-        match self {
-            Rate::Active(q) | Rate::Passive(q) => q.valid(),
-        }
-    }
-
     /// The exact sum of two rates of one kind, in lowest terms.
     pub fn add(&self, other: &Rate) -> Result<Rate, RateFault>
         ensures { IsSumOf self.now other.now result }
