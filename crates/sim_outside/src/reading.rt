@@ -1,12 +1,13 @@
-ghost use Rattle.std.specs.Prelude.{◌≡◌, ◌^◌, ◌<◌, ◌≤◌, length, IfOk};
+ghost use Rattle.std.specs.Prelude.{◌≡◌, ◌+◌, ◌^◌, ◌<◌, ◌≤◌, length, take, drop, IfOk, OnErr};
 ghost use Rattle.sim_outside.specs.Faults.{Rose};
 ghost use Rattle.sim_outside.specs.ReadAll.{ReadsToEnd};
+ghost use Rattle.sim_outside.specs.Source.{Reads};
 
 use std::alloc::Global;
 use thiserror::Error;
 
 use crate::bytes::Bytes;
-use crate::source::Source;
+use crate::source::{Failed, Source};
 
 /// Why a source was not read to its end.
 #[derive(Debug, Drop, Error)]
@@ -38,7 +39,7 @@ pub fn read_all<S: Source>(alloc: Global, source: &mut S, limit: usize) -> Resul
     };
     let mut filled = 0;
     while filled <= limit {
-        let Ok(count) = source.read(&mut buffer[filled..]) else {
+        let Ok(count) = read_behind(source, &mut buffer, filled) else {
             return Err(ReadEnd::ReadFault);
         };
         if count == 0 {
@@ -48,4 +49,20 @@ pub fn read_all<S: Source>(alloc: Global, source: &mut S, limit: usize) -> Resul
         filled += count;
     }
     Err(ReadEnd::TooLong)
+}
+
+/// Reads once, into the part of `buffer` behind its first `filled` bytes, which stay.
+fn read_behind<S: Source>(
+    source: &mut S,
+    buffer: &mut [u8],
+    filled: usize,
+) -> Result<usize, Failed>
+    requires { filled ≤ length buffer.old }
+    ensures count { IfOk result (λ count. filled + count ≤ length buffer.old) }
+    ensures front { take filled buffer.new ≡ take filled buffer.old }
+    ensures bytes { Reads (S.left source.old) (S.left source.new) result (drop filled buffer.new) }
+    ensures failed { OnErr result (Rose (S.faults source.old) (S.faults source.new)) }
+    ensures never_falls { S.faults source.old ≤ S.faults source.new }
+{
+    source.read(&mut buffer[filled..])
 }
