@@ -34,7 +34,7 @@ after_write state piece =
     if fails_write state (length piece)
     then record state { calls = next_count state.calls; faults = next_count state.faults }
     else record state {
-        calls = next_count state.calls;
-        written = state.written ++ take count piece;
-        room = state.room - count
+      calls = next_count state.calls;
+      written = state.written ++ take count piece;
+      room = state.room - count;
     }

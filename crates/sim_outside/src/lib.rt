@@ -12,10 +12,9 @@ mod sink;
 mod source;
 mod std_sink;
 mod std_source;
-mod writing;
-
 #[cfg(test)]
 mod tests;
+mod writing;
 
 pub use bytes::Bytes;
 pub use decimal::push_decimal;

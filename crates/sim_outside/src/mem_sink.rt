@@ -3,11 +3,10 @@ ghost use Rattle.sim_outside.specs.Faults.{Rose};
 ghost use Rattle.sim_outside.specs.Sink.{IsTaken, Writes};
 ghost use Rattle.sim_outside.specs.MemSink.{SinkState, write_answer, after_write};
 
-use std::alloc::{AllocError, Global};
-use std::marker::Model;
-
 use crate::sink::Sink;
 use crate::source::Failed;
+use std::alloc::{AllocError, Global};
+use std::marker::Model;
 
 /// A sink that keeps its bytes in memory, in the room that it is made with. It can be told to fail.
 #[derive(Debug, Drop)]
@@ -27,12 +26,12 @@ impl Model for MemSink {
     ghost Value = { SinkState };
 
     ghost view = { λ s. record {
-        written = s.bytes.items;
-        room = s.room;
-        chunk = s.chunk;
-        failing = s.failing.items;
-        calls = s.calls;
-        faults = s.faults
+      written = s.bytes.items;
+      room = s.room;
+      chunk = s.chunk;
+      failing = s.failing.items;
+      calls = s.calls;
+      faults = s.faults;
     } };
 
     ghost invariant = { λ s. (vec_len s.bytes + s.room ≤ vec_capacity s.bytes) × (1 ≤ s.chunk) };
@@ -49,7 +48,12 @@ impl MemSink {
     ) -> Result<MemSink, AllocError>
         requires { 1 ≤ chunk }
         ensures { IfOk result (λ sink. sink ≡ record {
-            written = []; room = room; chunk = chunk; failing = failing.now; calls = 0; faults = 0
+          written = [];
+          room = room;
+          chunk = chunk;
+          failing = failing.now;
+          calls = 0;
+          faults = 0;
         }) }
     {
         Ok(MemSink {

@@ -3,10 +3,9 @@ ghost use Rattle.sim_outside.specs.Faults.{Rose};
 ghost use Rattle.sim_outside.specs.Source.{Reads};
 ghost use Rattle.sim_outside.specs.MemSource.{SourceState, read_answer, after_read};
 
+use crate::source::{Failed, Source};
 use std::alloc::{AllocError, Global};
 use std::marker::Model;
-
-use crate::source::{Failed, Source};
 
 /// A source whose bytes lie in memory. It can be told to fail.
 #[derive(Debug, Drop)]
@@ -26,11 +25,11 @@ impl Model for MemSource {
     ghost Value = { SourceState };
 
     ghost view = { λ s. record {
-        left = drop s.position s.bytes.items;
-        chunk = s.chunk;
-        failing = s.failing.items;
-        calls = s.calls;
-        faults = s.faults
+      left = drop s.position s.bytes.items;
+      chunk = s.chunk;
+      failing = s.failing.items;
+      calls = s.calls;
+      faults = s.faults;
     } };
 
     ghost invariant = { λ s. (s.position ≤ vec_len s.bytes) × (1 ≤ s.chunk) };
@@ -47,7 +46,11 @@ impl MemSource {
     ) -> Result<MemSource, AllocError>
         requires { 1 ≤ chunk }
         ensures { IfOk result (λ source. source ≡ record {
-            left = bytes.now; chunk = chunk; failing = failing.now; calls = 0; faults = 0
+          left = bytes.now;
+          chunk = chunk;
+          failing = failing.now;
+          calls = 0;
+          faults = 0;
         }) }
     {
         Ok(MemSource {

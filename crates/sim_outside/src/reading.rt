@@ -1,16 +1,15 @@
-ghost use Rattle.std.specs.Prelude.{◌≡◌, ◌+◌, ◌^◌, ◌<◌, ◌≤◌, length, take, drop, IfOk, OnErr};
+ghost use Rattle.std.specs.Prelude.{◌≡◌, ◌+◌, ◌^◌, ◌<◌, ◌≤◌, length, take, drop, IfOk, OnErr, IsErrOf};
 ghost use Rattle.sim_outside.specs.Faults.{Rose};
 ghost use Rattle.sim_outside.specs.ReadAll.{ReadsToEnd};
 ghost use Rattle.sim_outside.specs.Source.{Reads};
 
+use crate::bytes::Bytes;
+use crate::source::{Failed, Source};
 use std::alloc::Global;
 use thiserror::Error;
 
-use crate::bytes::Bytes;
-use crate::source::{Failed, Source};
-
 /// Why a source was not read to its end.
-#[derive(Debug, Drop, Error)]
+#[derive(Clone, Copy, Debug, PartialEq, Eq, Error)]
 pub enum ReadEnd {
     /// A read failed.
     #[error("a read failed")]
@@ -30,8 +29,8 @@ pub fn read_all<S: Source>(alloc: Global, source: &mut S, limit: usize) -> Resul
     requires { limit < 2 ^ 32 }
     ensures told { ReadsToEnd (S.left source.old) (S.left source.new) limit result }
     ensures len { IfOk result (λ bytes. length bytes ≤ limit) }
-    ensures fault { result ≡ Err ReadEnd.ReadFault → Rose (S.faults source.old) (S.faults source.new) }
-    ensures memory { result ≡ Err ReadEnd.Memory → source.new ≡ source.old }
+    ensures fault { IsErrOf result ReadEnd.ReadFault → Rose (S.faults source.old) (S.faults source.new) }
+    ensures memory { IsErrOf result ReadEnd.Memory → source.new ≡ source.old }
     ensures never_falls { S.faults source.old ≤ S.faults source.new }
 {
     let Ok(mut buffer) = vec![in alloc; 0u8; limit + 1] else {
@@ -52,11 +51,7 @@ pub fn read_all<S: Source>(alloc: Global, source: &mut S, limit: usize) -> Resul
 }
 
 /// Reads once, into the part of `buffer` behind its first `filled` bytes, which stay.
-fn read_behind<S: Source>(
-    source: &mut S,
-    buffer: &mut [u8],
-    filled: usize,
-) -> Result<usize, Failed>
+fn read_behind<S: Source>(source: &mut S, buffer: &mut [u8], filled: usize) -> Result<usize, Failed>
     requires { filled ≤ length buffer.old }
     ensures count { IfOk result (λ count. filled + count ≤ length buffer.old) }
     ensures front { take filled buffer.new ≡ take filled buffer.old }

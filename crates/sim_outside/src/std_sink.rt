@@ -1,10 +1,9 @@
-ghost use Rattle.std.specs.Prelude.{◌≡◌, None};
-
-use std::io::Write;
-use std::marker::Model;
+ghost use Rattle.std.specs.Prelude.{◌≡◌, ◌<◌, ◌↔◌, IsTrue, None, length};
 
 use crate::sink::Sink;
 use crate::source::Failed;
+use std::io::Write;
+use std::marker::Model;
 
 /// A writer of the standard library, such as standard output, as a sink. It tells no bytes.
 ///
@@ -46,12 +45,19 @@ impl<W: Write> Sink for StdSink<W> {
 
     /// Each write is flushed, so that no byte it took stays in a buffer of the writer.
     fn write(&mut self, piece: &[u8]) -> Result<usize, Failed> {
-        let count = self.writer.write(piece).unwrap_or(0);
-        let is_taken = count > 0 || piece.is_empty();
-        if is_taken && self.writer.flush().is_ok() {
-            return Ok(count);
+        match self.writer.write(piece) {
+            Ok(count) if is_taken(count, piece) && self.writer.flush().is_ok() => Ok(count),
+            _ => {
+                self.faults = self.faults.saturating_add(1);
+                Err(Failed)
+            }
         }
-        self.faults = self.faults.saturating_add(1);
-        Err(Failed)
     }
+}
+
+// A writer that takes nothing of a piece that is not empty will take no more.
+fn is_taken(count: usize, piece: &[u8]) -> bool
+    ensures { IsTrue result ↔ (0 < length piece.now → 0 < count) }
+{
+    count > 0 || piece.is_empty()
 }

@@ -1,9 +1,8 @@
 ghost use Rattle.std.specs.Prelude.{◌≡◌, None};
 
+use crate::source::{Failed, Source};
 use std::io::Read;
 use std::marker::Model;
-
-use crate::source::{Failed, Source};
 
 /// A reader of the standard library, such as standard input, as a source. It tells no bytes.
 ///

@@ -1,4 +1,4 @@
-use Rattle.std.proofs.Common.{arith, drop, take, length, ◌≡◌, ◌++◌}
+use Rattle.std.proofs.Common.{arith, drop, take, length, ◌≡◌}
 use Rattle.std.proofs.lemmas.Grind.{common_steps}
 use Rattle.std.proofs.lemmas.List.{take_at}
 use Rattle.sim_outside.proofs.Device.{Takes-behind}
@@ -12,7 +12,7 @@ loop-filled-preserved g c =
     record {
       room = omega arith;
       in_room = let h = c.in-Ok-read_behind.ensures.count in grind (arith, common_steps);
-      taken = rw (take_at new _ _ kept)
+      taken = rw (take_at new (drop (length new) c.loop-filled.buffer.items) c.loop-filled.buffer.len kept)
           (Takes-behind _ _ _ c.loop-filled.buffer.items new _ _ front c.loop-filled.invariant.taken c.in-Ok-read_behind.ensures.bytes.0);
       never_falls = omega arith;
     }

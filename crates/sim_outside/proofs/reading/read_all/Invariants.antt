@@ -1,4 +1,4 @@
-use Rattle.std.proofs.Common.{length, take, vec_len, ◌+◌, ◌-◌, ◌≡◌, ◌≤◌}
+use Rattle.std.proofs.Common.{take, vec_len, ◌+◌, ◌-◌, ◌≡◌, ◌≤◌}
 use Rattle.sim_outside.specs.Source.{Takes}
 use Rattle.sim_outside.proofs.reading.read_all.Given as goal
 
