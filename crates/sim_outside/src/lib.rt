@@ -1,13 +1,28 @@
-// A library with one function.
+//! The outside world: sources of bytes, sinks for bytes, and reading and writing all of them.
+//!
+//! A source or a sink may tell contracts its bytes. Those in memory do; those of the operating system do not.
 #![tactic(auto)]
 
-ghost use Rattle.std.specs.Prelude.{◌≡◌};
-ghost use Rattle.sim_outside.specs.Echo.{echo_of};
+mod bytes;
+mod decimal;
+mod mem_sink;
+mod mem_source;
+mod reading;
+mod sink;
+mod source;
+mod std_sink;
+mod std_source;
+#[cfg(test)]
+mod tests;
+mod writing;
 
-// The `ensures` clause is the contract: what `echo` returns is `echo_of` of its argument, a definition
-// in `specs/Echo.antt`, which a caller's clause can cite too.
-pub fn echo(x: usize) -> usize
-    ensures { result ≡ echo_of x }
-{
-    x
-}
+pub use bytes::Bytes;
+pub use decimal::push_decimal;
+pub use mem_sink::MemSink;
+pub use mem_source::MemSource;
+pub use reading::{ReadEnd, read_all};
+pub use sink::Sink;
+pub use source::{Failed, Source};
+pub use std_sink::StdSink;
+pub use std_source::StdSource;
+pub use writing::write_all;

@@ -1,0 +1,21 @@
+ghost use Rattle.std.specs.Prelude.{ℕ, ◌≤◌, Option, List, length, IfOk, OnErr};
+ghost use Rattle.sim_outside.specs.Faults.{Rose};
+ghost use Rattle.sim_outside.specs.Sink.{IsTaken, Writes};
+
+use crate::source::Failed;
+
+/// What bytes are written to.
+pub trait Sink {
+    // The bytes written so far, where they are told.
+    ghost written: { Self → Option (List ℕ) };
+
+    // How many calls have failed, up to 2^64 - 1.
+    ghost faults: { Self → ℕ };
+
+    /// Takes bytes from the front of `piece` and answers how many: at least one, where there is one.
+    fn write(&mut self, piece: &[u8]) -> Result<usize, Failed>
+        ensures count { IfOk result (IsTaken (length piece.now)) }
+        ensures bytes { Writes (written self.old) (written self.new) result piece.now }
+        ensures failed { OnErr result (Rose (faults self.old) (faults self.new)) }
+        ensures never_falls { faults self.old ≤ faults self.new };
+}
