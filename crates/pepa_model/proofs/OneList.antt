@@ -1,13 +1,13 @@
 -- A term has one transition list, and one verdict.
-use Rattle.std.proofs.Common.{◌≡◌, ◌≢◌, ℕ, ◌<◌, ◌≤◌, List, [], ◌∷◌, ◌++◌, ◌⊎◌, inl, inr, refl, sym, ap, subst, ◌∙◌, Some, slice_get, length, arith}
+use Rattle.std.proofs.Common.{◌≡◌, ℕ, ◌<◌, List, [], ◌∷◌, ◌++◌, ◌⊎◌, inl, inr, refl, sym, ap, subst, ◌∙◌, arith}
 use Rattle.std.specs.List.{AllByRecursion, AllZip}
 use Rattle.std.proofs.lemmas.Bool.{cases_order}
 use Rattle.pepa_rates.specs.declared.rate.RateFault.{RateFault}
-use Rattle.pepa_model.specs.Expression.{Expression, Const, Prefixed, Chosen, WordTerm, LeafOf, Definition, Sequentially, Defines}
+use Rattle.pepa_model.specs.Expression.{Expression, Const, Prefixed, Chosen, WordTerm, LeafOf, Definition, Defines}
 use Rattle.pepa_model.specs.Derivation.{Derivation, ByPrefix, ByLeft, ByRight, ByConstant, Transition, Concludes, Precedes, InDerivationOrder, Among, IsTransitionList}
-use Rattle.pepa_model.specs.Opened.{Opened, OpenPrefix, OpenChoice, OpenConst, Opens, parts, moves}
+use Rattle.pepa_model.specs.Opened.{Opened, OpenPrefix, OpenChoice, OpenConst, Opens, parts}
 use Rattle.pepa_model.specs.Apparent.{Apparent, NoRate, Rated, Undefined, apparent_rate, IsFine, HasFault}
-use Rattle.pepa_model.specs.Verdict.{IsFirstFault, IsFinePart, HasRateFault, HasLongList, HasPartFault, TermFault, OfRates, OfLength, IsWithoutFault, IsVerdict}
+use Rattle.pepa_model.specs.Verdict.{IsFinePart, HasRateFault, HasPartFault, TermFault, OfRates, OfLength, IsWithoutFault, IsVerdict}
 
 -- ---- derivations
 
@@ -58,19 +58,19 @@ Within ds es = (d : Derivation) → Among d ds → Among d es
 same_first : (d e : Derivation) (ds es : List Derivation) → InDerivationOrder (d ∷ ds) → InDerivationOrder (e ∷ es) → Within (d ∷ ds) (e ∷ es) → Within (e ∷ es) (d ∷ ds) → d ≡ e
 same_first d e ds es h k to from = of_cases (to d (inl refl)) (from e (inl refl))
   where
-  of_cases : (d ≡ e) ⊎ Among d es → (e ≡ d) ⊎ Among e ds → d ≡ e
-  of_cases (inl same) other = same
-  of_cases (inr later) (inl same) = sym same
-  of_cases (inr later) (inr later_too) = absurd (never_both d e (each_among (Precedes d) e ds h.0 later_too) (each_among (Precedes e) d es k.0 later))
+    of_cases : (d ≡ e) ⊎ Among d es → (e ≡ d) ⊎ Among e ds → d ≡ e
+    of_cases (inl same) other = same
+    of_cases (inr later) (inl same) = sym same
+    of_cases (inr later) (inr later_too) = absurd (never_both d e (each_among (Precedes d) e ds h.0 later_too) (each_among (Precedes e) d es k.0 later))
 
 within_rest : (d : Derivation) (ds es : List Derivation) → InDerivationOrder (d ∷ ds) → Within (d ∷ ds) (d ∷ es) → Within ds es
 within_rest d ds es h to x among = of_cases (to x (inr among))
   where
-  of_cases : (x ≡ d) ⊎ Among x es → Among x es
-  of_cases (inl same) =
-      let before : Precedes d d = subst (λ (y : Derivation). Precedes d y) same (each_among (Precedes d) x ds h.0 among) in
-      absurd (never_both d d before before)
-  of_cases (inr later) = later
+    of_cases : (x ≡ d) ⊎ Among x es → Among x es
+    of_cases (inl same) =
+        let before : Precedes d d = subst (λ (y : Derivation). Precedes d y) same (each_among (Precedes d) x ds h.0 among) in
+        absurd (never_both d d before before)
+    of_cases (inr later) = later
 
 same_derivations : (ds es : List Derivation) → InDerivationOrder ds → InDerivationOrder es → Within ds es → Within es ds → ds ≡ es
 same_derivations [] [] h k to from = refl
@@ -152,10 +152,10 @@ part_not_fine p OfLength h k = omega (arith, h.long, k.short)
 same_rate_fault : (p : Opened) (f g : RateFault) → HasRateFault p f → HasRateFault p g → f ≡ g
 same_rate_fault p f g h k = of_cases (cases_order h.action k.action)
   where
-  of_cases : (h.action ≡ k.action) ⊎ ((h.action < k.action) ⊎ (k.action < h.action)) → f ≡ g
-  of_cases (inl e) = same_fault (apparent_rate p h.action) f g h.faulty (subst (λ (n : ℕ). HasFault (apparent_rate p n) g) (sym e) k.faulty)
-  of_cases (inr (inl lt)) = absurd (faulty_not_fine (apparent_rate p h.action) f h.faulty (k.least h.action h.positive lt))
-  of_cases (inr (inr gt)) = absurd (faulty_not_fine (apparent_rate p k.action) g k.faulty (h.least k.action k.positive gt))
+    of_cases : (h.action ≡ k.action) ⊎ ((h.action < k.action) ⊎ (k.action < h.action)) → f ≡ g
+    of_cases (inl e) = same_fault (apparent_rate p h.action) f g h.faulty (subst (λ (n : ℕ). HasFault (apparent_rate p n) g) (sym e) k.faulty)
+    of_cases (inr (inl lt)) = absurd (faulty_not_fine (apparent_rate p h.action) f h.faulty (k.least h.action h.positive lt))
+    of_cases (inr (inr gt)) = absurd (faulty_not_fine (apparent_rate p k.action) g k.faulty (h.least k.action k.positive gt))
 
 same_part_fault : (p : Opened) (f g : TermFault) → HasPartFault p f → HasPartFault p g → f ≡ g
 same_part_fault p (OfRates f) (OfRates g) h k = ap OfRates (same_rate_fault p f g h k)

@@ -29,7 +29,6 @@ pub struct Model {
 
 impl std::marker::Model for Model {
     ghost use Rattle.pepa_model.specs.PepaModel.{PepaModel};
-
     ghost use Rattle.pepa_model.specs.ExpressionCode.{expression_code};
     ghost use Rattle.std.specs.Coded.{codes};
 
