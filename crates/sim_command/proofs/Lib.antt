@@ -7,3 +7,4 @@ pub mod PiecesLemmas
 pub mod NumberLemmas
 pub mod SmallTextLemmas
 pub mod SmallReadingLemmas
+pub mod LineLemmas
