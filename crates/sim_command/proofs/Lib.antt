@@ -8,3 +8,4 @@ pub mod NumberLemmas
 pub mod SmallTextLemmas
 pub mod SmallReadingLemmas
 pub mod LineLemmas
+pub mod WordLists

@@ -1,7 +1,8 @@
-use Rattle.std.proofs.Common.{rules, map, string_bytes, ◌≡◌, ℕ, ◌+◌, ◌-◌, ◌*◌, ◌<◌, ◌≤◌, length, ◌/◌, ◌%◌, Bool, true, false, nat_eq, nat_lt, List, [], ◌∷◌, ◌++◌, slice_index_or, slice_set, bit_and, bit_or, Fits, w8, w32, w64, Bor, MutBor}
-use Rattle.sim_command.specs.Words.{ReadsWords}
+use Rattle.std.proofs.Common.{string_bytes, ◌∙◌, sym}
+use Rattle.std.specs.Prelude.{codes}
+use Rattle.sim_command.proofs.WordLists.{one_word}
 use Rattle.sim_command.proofs.words.read_words.Goals as goal
 
--- src/words.rt:23:1
 pub returns-in-len1 : goal.returns-in-len1
-returns-in-len1 c = ?
+returns-in-len1 c =
+    one_word string_bytes c.args.words.now c.word-item.result c.as_str.result.now (codes "steps") c.in-len1.len_at_least c.in-len1.len_below c.word-item.is c.as_str.ensures.value (sym c.eq.ensures ∙ c.if-eq.true)
