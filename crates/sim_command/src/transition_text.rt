@@ -3,7 +3,7 @@ ghost use Rattle.pepa_model.specs.Expression.{expression_of};
 ghost use Rattle.pepa_model.specs.PepaModel.{IsNamed};
 ghost use Rattle.pepa_model.specs.Terms.{IsTermOf};
 ghost use Rattle.sim_command.specs.StepsText as spec;
-ghost use Rattle.sim_command.specs.StepsText.{CanPrint, CanPrintStep, expression_text, fraction_text, prefix_text, rate_text, step_text, steps_text_of, term_text, weight_text};
+ghost use Rattle.sim_command.specs.StepsText.{CanPrint, CanPrintStep, expression_text, fraction_text, name_of, prefix_text, rate_text, step_text, steps_text_of, term_text, weight_text};
 
 use pepa_model::{Model, Sequential, Step, Term};
 use pepa_rates::{Frac, Rate};
@@ -26,12 +26,12 @@ fn push_step(alloc: Global, to: &mut Vec<u8>, model: &Model, step: &Step) -> Res
     requires { CanPrintStep model.now step.now }
     ensures { OnOk result (to.new.items ≡ to.old.items ++ step_text model.now step.now) }
 {
-    to.extend_from_slice(model.action_name(step.action).as_bytes())?;
-    to.extend_from_slice(b" ")?;
+    push_action(to, model, step.action)?;
+    push_text(to, b" ")?;
     push_rate(alloc, to, &step.rate)?;
-    to.extend_from_slice(b" ")?;
+    push_text(to, b" ")?;
     push_term(alloc, to, model, &step.target)?;
-    to.extend_from_slice(b"\n")
+    push_text(to, b"\n")
 }
 
 fn push_term(alloc: Global, to: &mut Vec<u8>, model: &Model, term: &Term) -> Result<(), AllocError>
@@ -52,9 +52,7 @@ fn push_expression(
     ensures { OnOk result (to.new.items ≡ to.old.items ++ expression_text model.now (expression_of expression.now)) }
 {
     match expression {
-        Sequential::Constant(constant) => {
-            to.extend_from_slice(model.constant_name(*constant).as_bytes())
-        }
+        Sequential::Constant(constant) => push_constant(to, model, *constant),
         Sequential::Prefix(action, rate, next) => {
             push_prefix(alloc, to, model, *action, rate)?;
             let brackets = is_choice(next);
@@ -64,7 +62,7 @@ fn push_expression(
         }
         Sequential::Choice(left, right) => {
             push_expression(alloc, to, model, left)?;
-            to.extend_from_slice(b" + ")?;
+            push_text(to, b" + ")?;
             let brackets = is_choice(right);
             push_bracket(to, brackets, b"(")?;
             push_expression(alloc, to, model, right)?;
@@ -78,7 +76,7 @@ fn push_bracket(to: &mut Vec<u8>, is_there: bool, bracket: &[u8]) -> Result<(), 
     ensures { OnOk result (to.new.items ≡ to.old.items ++ (if is_there then bracket.now else [])) }
 {
     if is_there {
-        to.extend_from_slice(bracket)?;
+        push_text(to, bracket)?;
     }
     Ok(())
 }
@@ -101,11 +99,31 @@ fn push_prefix(
     requires { action < length model.now.actions }
     ensures { OnOk result (to.new.items ≡ to.old.items ++ prefix_text model.now action rate.now) }
 {
-    to.extend_from_slice(b"(")?;
-    to.extend_from_slice(model.action_name(action).as_bytes())?;
-    to.extend_from_slice(b", ")?;
+    push_text(to, b"(")?;
+    push_action(to, model, action)?;
+    push_text(to, b", ")?;
     push_rate(alloc, to, rate)?;
-    to.extend_from_slice(b").")
+    push_text(to, b").")
+}
+
+fn push_action(to: &mut Vec<u8>, model: &Model, action: u32) -> Result<(), AllocError>
+    requires { action < length model.now.actions }
+    ensures { OnOk result (to.new.items ≡ to.old.items ++ name_of model.now.actions action) }
+{
+    push_text(to, model.action_name(action).as_bytes())
+}
+
+fn push_constant(to: &mut Vec<u8>, model: &Model, constant: u32) -> Result<(), AllocError>
+    requires { constant < length model.now.constants }
+    ensures { OnOk result (to.new.items ≡ to.old.items ++ name_of model.now.constants constant) }
+{
+    push_text(to, model.constant_name(constant).as_bytes())
+}
+
+fn push_text(to: &mut Vec<u8>, text: &[u8]) -> Result<(), AllocError>
+    ensures { OnOk result (to.new.items ≡ to.old.items ++ text.now) }
+{
+    to.extend_from_slice(text)
 }
 
 fn push_rate(alloc: Global, to: &mut Vec<u8>, rate: &Rate) -> Result<(), AllocError>
@@ -121,10 +139,10 @@ fn push_weight(alloc: Global, to: &mut Vec<u8>, weight: &Frac) -> Result<(), All
     ensures { OnOk result (to.new.items ≡ to.old.items ++ weight_text weight.now) }
 {
     if weight.num == 1 && weight.den == 1 {
-        return to.extend_from_slice(b"infty");
+        return push_text(to, b"infty");
     }
     push_fraction(alloc, to, weight)?;
-    to.extend_from_slice(b"*infty")
+    push_text(to, b"*infty")
 }
 
 fn push_fraction(alloc: Global, to: &mut Vec<u8>, value: &Frac) -> Result<(), AllocError>
@@ -134,6 +152,6 @@ fn push_fraction(alloc: Global, to: &mut Vec<u8>, value: &Frac) -> Result<(), Al
     if value.den == 1 {
         return Ok(());
     }
-    to.extend_from_slice(b"/")?;
+    push_text(to, b"/")?;
     push_decimal(alloc, to, u128::from(value.den))
 }
