@@ -9,3 +9,4 @@ pub mod SmallTextLemmas
 pub mod SmallReadingLemmas
 pub mod LineLemmas
 pub mod WordLists
+pub mod Verdicts
