@@ -10,3 +10,4 @@ pub mod SmallReadingLemmas
 pub mod LineLemmas
 pub mod WordLists
 pub mod Verdicts
+pub mod Printable

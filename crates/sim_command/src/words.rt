@@ -28,3 +28,6 @@ pub fn read_words(_alloc: Global, words: &[String]) -> Result<Command, WordsFaul
         _ => Err(WordsFault::Usage),
     }
 }
+
+#[cfg(test)]
+mod tests;
