@@ -7,4 +7,7 @@ pub mod PiecesLemmas
 pub mod NumberLemmas
 pub mod SmallTextLemmas
 pub mod SmallReadingLemmas
+pub mod LineLemmas
+pub mod WordLists
 pub mod Verdicts
+pub mod Printable
