@@ -7,3 +7,6 @@ pub mod PiecesLemmas
 pub mod NumberLemmas
 pub mod SmallTextLemmas
 pub mod SmallReadingLemmas
+pub mod NumberingNames
+pub mod NumberingLists
+pub mod NumberedModel

@@ -5,3 +5,4 @@ pub mod Pieces
 pub mod Tokens
 pub mod SmallText
 pub mod SmallReading
+pub mod Numbering

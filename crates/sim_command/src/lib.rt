@@ -3,6 +3,7 @@
 
 mod action_rates;
 mod apparent_rate;
+mod numbering;
 mod pieces;
 mod small_text;
 mod transitions;
