@@ -11,3 +11,6 @@ pub mod LineLemmas
 pub mod WordLists
 pub mod Verdicts
 pub mod Printable
+pub mod NumberingNames
+pub mod NumberingLists
+pub mod NumberedModel

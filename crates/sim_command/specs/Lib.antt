@@ -8,3 +8,7 @@ pub mod SmallReading
 pub mod FaultLine
 pub mod Words
 pub mod StepsText
+pub mod Numbering
+pub mod TransitionsText
+pub mod Answer
+pub mod TopCall
