@@ -9,7 +9,8 @@ use std::marker::Model;
 
 /// A writer of the standard library, such as standard output, as a sink. It tells no bytes.
 ///
-/// Contracts see it as the count of its faults. Each write is one call of the writer, and an interrupted one is a fault.
+/// Contracts see it as the count of its faults. Each write is one call of the writer, and an
+/// interrupted one is a fault.
 #[derive(Drop)]
 pub struct StdSink<W> {
     writer: W,
@@ -47,7 +48,9 @@ impl<W: Write> Sink for StdSink<W> {
 
     /// Each write is flushed, so that no byte it took stays in a buffer of the writer.
     fn write(&mut self, piece: &[u8]) -> Result<usize, Failed>
-        ensures faults { MatchResult result (λ _. self.new ≡ self.old) (λ _. self.new ≡ next_count self.old) }
+        ensures faults { MatchResult result
+            (λ _. self.new ≡ self.old)
+            (λ _. self.new ≡ next_count self.old) }
 
         // What each sink ensures.
         ensures count { IfOk result (IsTaken (length piece.now)) }

@@ -8,7 +8,8 @@ use std::marker::Model;
 
 /// A reader of the standard library, such as standard input, as a source. It tells no bytes.
 ///
-/// Contracts see it as the count of its faults. Each read is one call of the reader, and an interrupted one is a fault.
+/// Contracts see it as the count of its faults. Each read is one call of the reader, and an
+/// interrupted one is a fault.
 #[derive(Drop)]
 pub struct StdSource<R> {
     reader: R,
@@ -45,7 +46,9 @@ impl<R: Read> Source for StdSource<R> {
     ghost faults = { λ faults. faults };
 
     fn read(&mut self, buf: &mut [u8]) -> Result<usize, Failed>
-        ensures faults { MatchResult result (λ _. self.new ≡ self.old) (λ _. self.new ≡ next_count self.old) }
+        ensures faults { MatchResult result
+            (λ _. self.new ≡ self.old)
+            (λ _. self.new ≡ next_count self.old) }
 
         // What each source ensures.
         ensures count { IfOk result (λ count. count ≤ length buf.old) }
