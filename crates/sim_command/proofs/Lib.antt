@@ -9,4 +9,6 @@ pub mod SmallTextLemmas
 pub mod SmallReadingLemmas
 pub mod NumberingNames
 pub mod NumberingLists
+pub mod NumberingSteps
 pub mod NumberedModel
+pub mod NumberedText

@@ -110,7 +110,11 @@ any-without x name (other ∷ names) apart =
 with_name-there : (names : Names) (name : List ℕ) → list_any (bytes_eq name) names ≡ true → with_name names name ≡ names
 with_name-there names name e = ap (λ (b : Bool). if b then names else (names ++ name ∷ [])) e
 
-with_name-new : (names : Names) (name : List ℕ) → list_any (bytes_eq name) names ≡ false → with_name names name ≡ names ++ name ∷ []
+pub without_any : (b : Bool) → not b ≡ true → b ≡ false
+without_any true h = absurd cc
+without_any false h = refl
+
+pub with_name-new : (names : Names) (name : List ℕ) → list_any (bytes_eq name) names ≡ false → with_name names name ≡ names ++ name ∷ []
 with_name-new names name e = ap (λ (b : Bool). if b then names else (names ++ name ∷ [])) e
 
 without-push : (x name : List ℕ) (names : Names) (b : Bool) → bytes_eq x name ≡ b → without x (names ++ name ∷ []) ≡ without x names ++ (cond (not b) (name ∷ []) [])
