@@ -1,6 +1,7 @@
 -- What the parts of a text give together: that it has a model, and which.
 use Rattle.std.proofs.Common.{◌≡◌, ℕ, ◌≤◌, List, [], ◌∷◌, map, length, Err, inl, inr, codes, refl, sym, ap, ◌∙◌, subst, arith}
 use Rattle.std.specs.List.{AllByRecursion}
+use Rattle.std.specs.Map.{keys_of}
 use Rattle.std.proofs.lemmas.List.{length-map}
 use Rattle.pepa_model.specs.Expression.{Expression, Const, Definition}
 use Rattle.pepa_model.specs.Derivation.{Among}
@@ -55,6 +56,9 @@ text_fault text lines constants Is All e lines_are constants_are given =
     (λ named. targets_along (constants_of text.lines) constants text.lines lines (ap constants_of (sym lines_are) ∙ sym constants_are) (sym lines_are) named.targets) given
 
 -- ---- the model
+
+pub few_keys : {V : Type 0} (entries : List (List ℕ × V)) (count : ℕ) → count ≡ length entries → count ≤ 1025 → length (keys_of entries) ≤ 1025
+few_keys entries count is few = let len = length-map entries (λ e. e.0) in omega arith
 
 pub record Parts (text : SmallText) (lines : List SmallLine) (m : PepaModel) (system : ℕ) : Type 0 where
   pub lines_are : lines ≡ text.lines
