@@ -1,14 +1,14 @@
 -- The model of a text keeps what each model keeps.
-use Rattle.std.proofs.Common.{◌≡◌, ℕ, zero, suc, ◌+◌, ◌<◌, ◌≤◌, ◌^◌, max, List, [], ◌∷◌, ◌++◌, map, fold, length, slice_get, get_or, Option, Some, None, refl, sym, ap, ◌∙◌, subst, arith, append_assoc, append-nil, length-append}
+use Rattle.std.proofs.Common.{◌≡◌, ℕ, zero, suc, ◌+◌, ◌<◌, ◌≤◌, List, [], ◌∷◌, ◌++◌, map, fold, length, slice_get, Some, refl, sym, ap, ◌∙◌, subst, arith, append_assoc, append-nil, length-append}
 use Rattle.std.specs.Option.{option_map}
-use Rattle.std.specs.List.{AllByRecursion, AllZip, range_with_len}
+use Rattle.std.specs.List.{AllByRecursion, AllZip}
 use Rattle.std.proofs.lemmas.List.{length-map}
 use Rattle.std.proofs.lemmas.List.FromFn.{length-map-range_with_len, get_or-map-range_with_len}
 use Rattle.std.proofs.lemmas.Option.{slice_get-map, slice_get-get_or, slice_get_within, same_Some}
-use Rattle.pepa_model.specs.Expression.{Expression, Const, Chosen, Definition, Sequentially, Defines}
+use Rattle.pepa_model.specs.Expression.{Expression, Const, Chosen, Definition}
 use Rattle.pepa_model.specs.Opened.{Opened, OpenPrefix, OpenChoice, OpenConst, Opens, moves, height}
-use Rattle.pepa_model.specs.Derivation.{Transition, leaf_transition, Among}
-use Rattle.pepa_model.specs.PepaModel.{PepaModel, Shape, StandsForTransition, IsSoundLeaf, IsModel}
+use Rattle.pepa_model.specs.Derivation.{leaf_transition, Among}
+use Rattle.pepa_model.specs.PepaModel.{StandsForTransition, IsSoundLeaf, IsModel}
 use Rattle.pepa_model.specs.declared.term.Activity.{Activity}
 use Rattle.sim_command.specs.declared.small_text.SmallPrefix.{SmallPrefix}
 use Rattle.sim_command.specs.declared.small_text.SmallLine.{SmallLine}
@@ -49,7 +49,7 @@ stand_from leaves before o [] h numbered = subst (λ (l : List Activity). AllZip
 stand_from leaves before o (a ∷ activities) h numbered =
     subst (λ (l : List Activity). AllZip (StandsForTransition leaves) l (moves (opened_from (OpenChoice o (opened_prefix a)) activities))) (append_assoc before (a ∷ []) activities)
     (stand_from leaves (before ++ a ∷ []) (OpenChoice o (opened_prefix a)) activities
-        (AllZip-push (StandsForTransition leaves) before (moves o) a (leaf_transition a.action a.rate (Const a.target)) h (stands leaves a numbered.0)) numbered.1)
+    (AllZip-push (StandsForTransition leaves) before (moves o) a (leaf_transition a.action a.rate (Const a.target)) h (stands leaves a numbered.0)) numbered.1)
 
 record OpensInto (definitions : List Definition) (leaves : List Expression) (activities : List Activity) : Type 0 where
   opened : Opened
@@ -126,7 +126,7 @@ module _ (text : SmallText) (are_lines : AllByRecursion IsLine text.lines) (few 
       let count = constant_count in
       let stored : slice_get (activities_of (constants_of text.lines) (actions_of text.lines) text.lines) number ≡ Some list = got_map line_list text.lines number found.line found.at in
       let numbered = all_map (λ a. slice_get (leaves_of (length text.lines)) a.target ≡ Some (Const a.target)) activity
-          (λ p. leaf_at (length text.lines) (number_in (constants_of text.lines) p.target) (let inside = number_within (constants_of text.lines) p.target (omega arith) in omega arith)) found.line.prefixes in
+      (λ p. leaf_at (length text.lines) (number_in (constants_of text.lines) p.target) (let inside = number_within (constants_of text.lines) p.target (omega arith) in omega arith)) found.line.prefixes in
       let inner = opened_line (model_of text).bodies (leaves_of (length text.lines)) list (omega arith) numbered in
       let low : height inner.opened ≤ length list = inner.low in
       record {
@@ -150,13 +150,13 @@ module _ (text : SmallText) (are_lines : AllByRecursion IsLine text.lines) (few 
     bodies = length-map (activities_of (constants_of text.lines) (actions_of text.lines) text.lines) definition_of_activities ∙ length-map text.lines line_list ∙ sym constant_count;
     tau = refl;
     leaves = λ number e at.
-      let lt = leaf_within (length text.lines) number e at in
-      let same : Const number ≡ e = same_Some (Const number) e (sym (leaf_at (length text.lines) number lt) ∙ at) in
-      subst (IsSoundLeaf (model_of text) number) same (sound_leaf number lt);
+        let lt = leaf_within (length text.lines) number e at in
+        let same : Const number ≡ e = same_Some (Const number) e (sym (leaf_at (length text.lines) number lt) ∙ at) in
+        subst (IsSoundLeaf (model_of text) number) same (sound_leaf number lt);
     activities = length-map text.lines line_list ∙ sym (length-map-range_with_len Const 0 (length text.lines));
     few_leaves = let len : length (leaves_of (length text.lines)) ≡ length text.lines = length-map-range_with_len Const 0 (length text.lines) in omega arith;
     system =
-      let count = constant_count in
-      let inside = number_within (constants_of text.lines) text.system (some_constant text.system (constants_of text.lines) named.system) in
-      (number_in (constants_of text.lines) text.system, leaf_at (length text.lines) (number_in (constants_of text.lines) text.system) (omega arith));
+        let count = constant_count in
+        let inside = number_within (constants_of text.lines) text.system (some_constant text.system (constants_of text.lines) named.system) in
+        (number_in (constants_of text.lines) text.system, leaf_at (length text.lines) (number_in (constants_of text.lines) text.system) (omega arith));
   }

@@ -3,7 +3,7 @@ use Rattle.std.proofs.Common.{◌≡◌, ℕ, ◌≤◌, List, [], ◌∷◌, ma
 use Rattle.std.specs.List.{AllByRecursion}
 use Rattle.std.specs.Map.{keys_of}
 use Rattle.std.proofs.lemmas.List.{length-map}
-use Rattle.pepa_model.specs.Expression.{Expression, Const, Definition}
+use Rattle.pepa_model.specs.Expression.{Const}
 use Rattle.pepa_model.specs.Derivation.{Among}
 use Rattle.pepa_model.specs.PepaModel.{PepaModel, LeafShape, IsModel}
 use Rattle.pepa_model.specs.declared.term.Activity.{Activity}
@@ -12,7 +12,7 @@ use Rattle.sim_command.specs.declared.small_text.SmallLine.{SmallLine}
 use Rattle.sim_command.specs.declared.small_text.SmallText.{SmallText}
 use Rattle.sim_command.specs.declared.small_text.TextFault.{TextFault}
 use Rattle.sim_command.specs.SmallText.{IsLine}
-use Rattle.sim_command.specs.Numbering.{first_places, number_in, AreDistinct, constants_of, prefixes_of, actions_of, definition_of_activities, activity_of, activities_of, leaves_of, IsWellNamed, model_of, IsModelOf, GivesWhere}
+use Rattle.sim_command.specs.Numbering.{number_in, AreDistinct, constants_of, prefixes_of, actions_of, definition_of_activities, activity_of, activities_of, leaves_of, IsWellNamed, IsModelOf, GivesWhere}
 use Rattle.sim_command.proofs.NumberingNames.{Among-first_places}
 use Rattle.sim_command.proofs.NumberingSteps.{action_of, gives_fault}
 use Rattle.sim_command.proofs.NumberedModel.{is_model}
@@ -35,9 +35,10 @@ actions_known lines actions is =
 
 some_in_each : (constants actions : Names) (lines : List SmallLine) → AllByRecursion IsLine lines → AllByRecursion (λ list. 1 ≤ length list) (activities_of constants actions lines)
 some_in_each constants actions [] are = tt
-some_in_each constants actions (line ∷ lines) are =
-    (let len = length-map line.prefixes (activity_of constants actions) in let some : 1 ≤ length line.prefixes = are.0.some in omega arith,
-    some_in_each constants actions lines are.1)
+some_in_each constants actions (line ∷ lines) are = (
+  let len = length-map line.prefixes (activity_of constants actions) in let some : 1 ≤ length line.prefixes = are.0.some in omega arith,
+  some_in_each constants actions lines are.1,
+)
 
 pub some_activities : (constants actions : Names) (lines others : List SmallLine) (list lists : List (List Activity)) → list ≡ lists → lists ≡ activities_of constants actions lines → lines ≡ others → AllByRecursion IsLine others → AllByRecursion (λ l. 1 ≤ length l) list
 some_activities constants actions lines others list lists same is lines_are are =
@@ -80,23 +81,24 @@ pub numbered : (text : SmallText) (lines : List SmallLine) (m : PepaModel) (syst
 numbered text lines m system parts =
     let constants_are : m.constants ≡ constants_of text.lines = parts.constants ∙ ap constants_of parts.lines_are in
     let actions_are : m.actions ≡ actions_of text.lines = parts.actions ∙ ap actions_of parts.lines_are in
-    let activities_are : m.activities ≡ activities_of (constants_of text.lines) (actions_of text.lines) text.lines = parts.activities ∙ (λ j. activities_of (constants_are j) (actions_are j) (parts.lines_are j)) in
-    (record {
-      distinct = subst (λ (ls : List SmallLine). AreDistinct (constants_of ls)) parts.lines_are parts.distinct;
-      targets = targets_along m.constants (constants_of text.lines) lines text.lines constants_are parts.lines_are parts.targets;
-      system = subst (Among text.system) constants_are parts.defined;
-      few_actions = subst (λ (k : Names). length k ≤ 1025) actions_are parts.few_actions;
-      few_prefixes = subst (λ (ls : List SmallLine). length (prefixes_of ls) ≤ 65535) parts.lines_are parts.few_prefixes;
-    },
-    λ j. record {
-      constants = constants_are j;
-      actions = actions_are j;
-      bodies = (parts.bodies ∙ ap (map definition_of_activities) activities_are) j;
-      leaves = (parts.leaves ∙ ap (λ (ls : List SmallLine). leaves_of (length ls)) parts.lines_are) j;
-      activities = activities_are j;
-      sets = parts.sets j;
-      system = (parts.system_is ∙ ap (λ (n : ℕ). LeafShape (Const n)) (parts.number ∙ ap (λ (k : Names). number_in k text.system) constants_are)) j;
-    })
+    let activities_are : m.activities ≡ activities_of (constants_of text.lines) (actions_of text.lines) text.lines = parts.activities ∙ (λ j. activities_of (constants_are j) (actions_are j) (parts.lines_are j)) in (
+      record {
+        distinct = subst (λ (ls : List SmallLine). AreDistinct (constants_of ls)) parts.lines_are parts.distinct;
+        targets = targets_along m.constants (constants_of text.lines) lines text.lines constants_are parts.lines_are parts.targets;
+        system = subst (Among text.system) constants_are parts.defined;
+        few_actions = subst (λ (k : Names). length k ≤ 1025) actions_are parts.few_actions;
+        few_prefixes = subst (λ (ls : List SmallLine). length (prefixes_of ls) ≤ 65535) parts.lines_are parts.few_prefixes;
+      },
+      λ j. record {
+        constants = constants_are j;
+        actions = actions_are j;
+        bodies = (parts.bodies ∙ ap (map definition_of_activities) activities_are) j;
+        leaves = (parts.leaves ∙ ap (λ (ls : List SmallLine). leaves_of (length ls)) parts.lines_are) j;
+        activities = activities_are j;
+        sets = parts.sets j;
+        system = (parts.system_is ∙ ap (λ (n : ℕ). LeafShape (Const n)) (parts.number ∙ ap (λ (k : Names). number_in k text.system) constants_are)) j;
+      },
+    )
 
 pub model_is_sound : (text : SmallText) (m : PepaModel) → AllByRecursion IsLine text.lines → length text.lines ≤ 1024 → IsModelOf text m → IsModel m
 model_is_sound text m are few is = subst IsModel (sym is.1) (is_model text are few is.0)

@@ -1,5 +1,5 @@
 -- Names in lists: which stand there, at which place, and how often.
-use Rattle.std.proofs.Common.{◌≡◌, ℕ, suc, ◌+◌, ◌<◌, ◌≤◌, Bool, true, false, cond, not, ◌||◌, if◌then◌else◌, List, [], ◌∷◌, ◌++◌, map, length, get_or, filter, Option, Some, None, is_some, is_none, position, unwrap_or, bytes_eq, nat_lt, ◌⊎◌, inl, inr, ⊎_elim, refl, sym, ap, ◌∙◌, subst, arith, append_assoc}
+use Rattle.std.proofs.Common.{◌≡◌, ℕ, suc, ◌+◌, ◌<◌, Bool, true, false, cond, not, ◌||◌, if◌then◌else◌, List, [], ◌∷◌, ◌++◌, length, Option, Some, None, is_some, is_none, position, unwrap_or, bytes_eq, nat_lt, ◌⊎◌, inl, inr, refl, sym, ap, ◌∙◌, subst, arith}
 use Rattle.std.specs.List.{list_any, position_or_len}
 use Rattle.std.specs.Map.{keys_of, lookup}
 use Rattle.std.proofs.lemmas.Bool.Decides.{nat_tests}
@@ -145,6 +145,7 @@ without-with_name x name names =
           | inl a ↦ ap (without x) (with_name-there names name a)
           | inr a ↦ ap (without x) (with_name-new names name a) ∙ without-push x name names true back ∙ append-nothing (without x names)
         ]
+
     other : bytes_eq name x ≡ false → x ∷ without x (with_name names name) ≡ with_name (x ∷ without x names) name
     other e =
         let kept : list_any (bytes_eq name) (x ∷ without x names) ≡ list_any (bytes_eq name) names = ap (λ (b : Bool). b || list_any (bytes_eq name) (without x names)) e ∙ any-without x name names e in
@@ -182,9 +183,10 @@ Among-push x y (name ∷ names) (inr h) = elim (Among-push x y names h) [ inl e 
 
 pub AreDistinct-push : (names : Names) (name : List ℕ) → AreDistinct names → ¬ Among name names → AreDistinct (names ++ name ∷ [])
 AreDistinct-push [] name distinct new = (λ h. h, tt)
-AreDistinct-push (x ∷ names) name distinct new =
-    (λ h. elim (Among-push x name names h) [ inl e ↦ new (inl (sym e)) | inr k ↦ distinct.0 k ],
-    AreDistinct-push names name distinct.1 (λ h. new (inr h)))
+AreDistinct-push (x ∷ names) name distinct new = (
+  λ h. elim (Among-push x name names h) [ inl e ↦ new (inl (sym e)) | inr k ↦ distinct.0 k ],
+  AreDistinct-push names name distinct.1 (λ h. new (inr h)),
+)
 
 Among-middle : (name : List ℕ) (names more : Names) → Among name (names ++ name ∷ more)
 Among-middle name [] more = inl refl

@@ -1,6 +1,6 @@
 -- The steps of the loops over lines, prefixes and activities.
-use Rattle.std.proofs.Common.{◌≡◌, ℕ, suc, ◌+◌, ◌<◌, ◌≤◌, Bool, true, false, not, List, [], ◌∷◌, ◌++◌, map, fold, length, get_or, take, drop, flat_map, bytes_eq, codes, Err, refl, sym, ap, ◌∙◌, subst, arith, append_assoc, length-append}
-use Rattle.std.specs.List.{AllByRecursion, list_any, range_with_len}
+use Rattle.std.proofs.Common.{◌≡◌, ℕ, suc, ◌+◌, ◌<◌, ◌≤◌, Bool, true, false, not, List, [], ◌∷◌, ◌++◌, map, fold, length, get_or, take, drop, bytes_eq, codes, Err, refl, sym, ap, ◌∙◌, subst, arith, append_assoc, length-append}
+use Rattle.std.specs.List.{AllByRecursion, list_any}
 use Rattle.std.proofs.lemmas.List.{map_more, map_push, map-append}
 use Rattle.std.proofs.lemmas.List.Concat.{flat_map-append}
 use Rattle.std.proofs.lemmas.List.FromFn.{map-range_with_len_more}
@@ -39,15 +39,16 @@ gives_fault Fine Whole Is All Memory back given = tt
 pub constants_more : (lines : List SmallLine) (i : ℕ) (line : SmallLine) (before after : Names) (new : Bool) → i < length lines → line ≡ get_or lines i line → before ≡ constants_of (take i lines) → AreDistinct (constants_of (take i lines)) → after ≡ with_name before line.name → new ≡ not (list_any (bytes_eq line.name) before) → new ≡ true → (after ≡ constants_of (take (i + 1) lines)) × AreDistinct (constants_of (take (i + 1) lines))
 constants_more lines i line before after new lt is so_far distinct put told was_new =
     let apart : list_any (bytes_eq line.name) before ≡ false = without_any (list_any (bytes_eq line.name) before) (sym told ∙ was_new) in
-    let more : constants_of (take (i + 1) lines) ≡ constants_of (take i lines) ++ line.name ∷ [] = map_more name_of lines i line lt ∙ ap (λ (l : SmallLine). constants_of (take i lines) ++ l.name ∷ []) (sym is) in
-    (put ∙ with_name-new before line.name apart ∙ ap (λ (k : Names). k ++ line.name ∷ []) so_far ∙ sym more,
-    subst AreDistinct (sym more) (AreDistinct-push (constants_of (take i lines)) line.name distinct (subst (λ (k : Names). ¬ Among line.name k) so_far (no_Among line.name before apart))))
+    let more : constants_of (take (i + 1) lines) ≡ constants_of (take i lines) ++ line.name ∷ [] = map_more name_of lines i line lt ∙ ap (λ (l : SmallLine). constants_of (take i lines) ++ l.name ∷ []) (sym is) in (
+      put ∙ with_name-new before line.name apart ∙ ap (λ (k : Names). k ++ line.name ∷ []) so_far ∙ sym more,
+      subst AreDistinct (sym more) (AreDistinct-push (constants_of (take i lines)) line.name distinct (subst (λ (k : Names). ¬ Among line.name k) so_far (no_Among line.name before apart))),
+    )
 
 pub constant_again : (lines : List SmallLine) (i : ℕ) (line : SmallLine) (before : Names) (new : Bool) → i < length lines → line ≡ get_or lines i line → before ≡ constants_of (take i lines) → new ≡ not (list_any (bytes_eq line.name) before) → new ≡ false → AreDistinct (constants_of lines) → ⊥
 constant_again lines i line before new lt is so_far told not_new distinct =
     let there : list_any (bytes_eq line.name) before ≡ true = with_any (list_any (bytes_eq line.name) before) (sym told ∙ not_new) in
     let split : constants_of lines ≡ constants_of (take i lines) ++ line.name ∷ constants_of (drop (i + 1) lines) =
-        ap constants_of (split_at lines i line lt) ∙ map-append name_of (take i lines) (get_or lines i line ∷ drop (i + 1) lines) ∙ ap (λ (l : SmallLine). constants_of (take i lines) ++ l.name ∷ constants_of (drop (i + 1) lines)) (sym is) in
+    ap constants_of (split_at lines i line lt) ∙ map-append name_of (take i lines) (get_or lines i line ∷ drop (i + 1) lines) ∙ ap (λ (l : SmallLine). constants_of (take i lines) ++ l.name ∷ constants_of (drop (i + 1) lines)) (sym is) in
     stands_twice line.name (constants_of (take i lines)) (constants_of (drop (i + 1) lines)) (subst (Among line.name) so_far (Among-from_any line.name before there)) (subst AreDistinct split distinct)
   where
     with_any : (b : Bool) → not b ≡ false → b ≡ true
@@ -71,7 +72,7 @@ all_actions_more lines i line new lt is put =
 pub too_many : (lines : List SmallLine) (i : ℕ) (line : SmallLine) (count : ℕ) → i < length lines → line ≡ get_or lines i line → count ≡ length (prefixes_of (take i lines)) → 65535 < count + length line.prefixes → length (prefixes_of lines) ≤ 65535 → ⊥
 too_many lines i line count lt is so_far many few =
     let split : prefixes_of lines ≡ prefixes_of (take i lines) ++ (line.prefixes ++ prefixes_of (drop (i + 1) lines)) =
-        ap prefixes_of (split_at lines i line lt) ∙ flat_map-append parts_of (take i lines) (get_or lines i line ∷ drop (i + 1) lines) ∙ ap (λ (l : SmallLine). prefixes_of (take i lines) ++ (l.prefixes ++ prefixes_of (drop (i + 1) lines))) (sym is) in
+    ap prefixes_of (split_at lines i line lt) ∙ flat_map-append parts_of (take i lines) (get_or lines i line ∷ drop (i + 1) lines) ∙ ap (λ (l : SmallLine). prefixes_of (take i lines) ++ (l.prefixes ++ prefixes_of (drop (i + 1) lines))) (sym is) in
     let whole = ap length split ∙ length-append (prefixes_of (take i lines)) (line.prefixes ++ prefixes_of (drop (i + 1) lines)) in
     let parts = length-append line.prefixes (prefixes_of (drop (i + 1) lines)) in
     omega arith
@@ -88,7 +89,7 @@ take-behind first rest i = let e : i + 1 ≡ suc i = omega arith in rw e refl
 pub choice_more : (activities : List Activity) (first : Activity) (rest : List Activity) (i : ℕ) (a : Activity) (sum more : Expression) → activities ≡ first ∷ rest → i < length rest → a ≡ get_or rest i a → sum ≡ choice_of (map prefix_expression (take (i + 1) activities)) → more ≡ prefix_expression a → Chosen sum more ≡ choice_of (map prefix_expression (take (i + 1 + 1) activities))
 choice_more activities first rest i a sum more whole lt is so_far one =
     let up_to : (k : ℕ) → choice_of (map prefix_expression (take (k + 1) activities)) ≡ fold Chosen (prefix_expression first) (map prefix_expression (take k rest)) =
-        λ k. ap (λ (l : List Activity). choice_of (map prefix_expression (take (k + 1) l))) whole ∙ ap (λ (l : List Activity). choice_of (map prefix_expression l)) (take-behind first rest k) in
+    λ k. ap (λ (l : List Activity). choice_of (map prefix_expression (take (k + 1) l))) whole ∙ ap (λ (l : List Activity). choice_of (map prefix_expression l)) (take-behind first rest k) in
     let pushed : map prefix_expression (take (i + 1) rest) ≡ map prefix_expression (take i rest) ++ prefix_expression a ∷ [] = map_more prefix_expression rest i a lt ∙ ap (λ (b : Activity). map prefix_expression (take i rest) ++ prefix_expression b ∷ []) (sym is) in
     ap (λ (e : Expression). Chosen e more) (so_far ∙ up_to i) ∙ ap (Chosen (fold Chosen (prefix_expression first) (map prefix_expression (take i rest)))) one
     ∙ sym (up_to (i + 1) ∙ ap (fold Chosen (prefix_expression first)) pushed ∙ fold-push Chosen (prefix_expression first) (map prefix_expression (take i rest)) (prefix_expression a))

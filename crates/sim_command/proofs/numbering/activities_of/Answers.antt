@@ -1,4 +1,4 @@
-use Rattle.std.proofs.Common.{◌≡◌, ℕ, List, map, subst, sym, ap, ◌∙◌}
+use Rattle.std.proofs.Common.{◌≡◌, List, map, subst, sym, ap, ◌∙◌}
 use Rattle.std.specs.List.{AllByRecursion}
 use Rattle.std.proofs.lemmas.Result.{err_from_is_err_and}
 use Rattle.indexmap.specs.IndexMap.{keys}
@@ -22,4 +22,4 @@ returns-in_err-line_activities c =
     let Is : List Activity → Type 0 = λ list. list ≡ map (activity_of (keys c.args.constants.now) (keys c.args.actions.now)) c.as_slice-prefixes.result.now in
     let All : List (List Activity) → Type 0 = λ lists. lists ≡ activities_of (keys c.args.constants.now) (keys c.args.actions.now) c.args.lines.now in
     rw (p.1, p.2) (line_fault (λ (q : SmallPrefix). Among q.target (keys c.args.constants.now)) c.args.lines.now c.loop-line.line-index c.line-item.result c.as_slice-prefixes.result.now Is All c.in_err-line_activities.field-0.0
-        c.loop-line-test.true c.line-item.is c.as_slice-prefixes.ensures c.in_err-line_activities.ensures)
+    c.loop-line-test.true c.line-item.is c.as_slice-prefixes.ensures c.in_err-line_activities.ensures)

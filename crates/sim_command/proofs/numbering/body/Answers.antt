@@ -1,5 +1,5 @@
-use Rattle.std.proofs.Common.{sym, ◌∙◌, ap, subst}
-use Rattle.pepa_model.specs.Expression.{Chosen, expression_of}
+use Rattle.std.proofs.Common.{◌∙◌, ap}
+use Rattle.pepa_model.specs.Expression.{expression_of}
 use Rattle.sim_command.proofs.NumberingSteps.{choice_more}
 use Rattle.sim_command.proofs.numbering.body.Goals as goal
 

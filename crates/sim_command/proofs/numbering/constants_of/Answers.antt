@@ -10,5 +10,5 @@ returns-then-not-branch c =
 pub loop-line-preserved : goal.loop-line-preserved
 loop-line-preserved c =
     let more = constants_more c.args.lines.now c.loop-line.line-index c.line-item.result (keys c.loop-line.constants) (keys c.add_name.new.names) c.in_ok-add_name.field-0
-        c.loop-line-test.true c.line-item.is c.loop-line.invariant.names c.loop-line.invariant.distinct c.in_ok-add_name.ensures.0 c.in_ok-add_name.ensures.1 c.if-not-branch.false in
+    c.loop-line-test.true c.line-item.is c.loop-line.invariant.names c.loop-line.invariant.distinct c.in_ok-add_name.ensures.0 c.in_ok-add_name.ensures.1 c.if-not-branch.false in
     record { names = more.0; distinct = more.1 }
