@@ -1,1 +1,2 @@
 pub mod TransitionLists
+pub mod OneList

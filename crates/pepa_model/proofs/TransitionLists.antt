@@ -1,7 +1,7 @@
 -- The moves of an opened component are its transition list.
-use Rattle.std.proofs.Common.{◌≡◌, ℕ, ◌<◌, List, [], ◌∷◌, ◌++◌, map, Some, ◌⊎◌, inl, inr, refl, sym, ap, subst, ◌∙◌, slice_get, Option}
+use Rattle.std.proofs.Common.{◌≡◌, ℕ, List, [], ◌∷◌, ◌++◌, map, inl, inr, refl, sym, ap, subst}
 use Rattle.std.specs.List.{AllByRecursion, AllZip}
-use Rattle.pepa_model.specs.Expression.{Expression, Const, Prefixed, Chosen, WordTerm, LeafOf, Definition, Sequentially, Defines}
+use Rattle.pepa_model.specs.Expression.{Expression, Const, Prefixed, Chosen, LeafOf, Definition, Defines}
 use Rattle.pepa_model.specs.Derivation.{Derivation, ByPrefix, ByLeft, ByRight, ByConstant, Transition, leaf_transition, Concludes, Precedes, InDerivationOrder, Among, IsTransitionList}
 use Rattle.pepa_model.specs.Opened.{Opened, OpenPrefix, OpenChoice, OpenConst, Opens, moves}
 
@@ -52,11 +52,12 @@ InDerivationOrder-map f k (d ∷ ds) h = (AllByRecursion-map (Precedes d) (Prece
 -- those of the left operand, and then those of the right one
 InDerivationOrder-choice : (ds es : List Derivation) → InDerivationOrder ds → InDerivationOrder es → InDerivationOrder (map ByLeft ds ++ map ByRight es)
 InDerivationOrder-choice [] es h k = InDerivationOrder-map ByRight (λ d e p. p) es k
-InDerivationOrder-choice (d ∷ ds) es h k =
-    (AllByRecursion-append (Precedes (ByLeft d)) (map ByLeft ds) (map ByRight es)
-        (AllByRecursion-map (Precedes d) (Precedes (ByLeft d)) ByLeft (λ e p. p) ds h.0)
-        (AllByRecursion-each (Precedes (ByLeft d)) ByRight (λ e. tt) es),
-    InDerivationOrder-choice ds es h.1 k)
+InDerivationOrder-choice (d ∷ ds) es h k = (
+  AllByRecursion-append (Precedes (ByLeft d)) (map ByLeft ds) (map ByRight es)
+      (AllByRecursion-map (Precedes d) (Precedes (ByLeft d)) ByLeft (λ e p. p) ds h.0)
+      (AllByRecursion-each (Precedes (ByLeft d)) ByRight (λ e. tt) es),
+  InDerivationOrder-choice ds es h.1 k,
+)
 
 -- the derivations of an opened component, in order
 abbrev derivations_of : Opened → List Derivation
@@ -75,12 +76,12 @@ module _ (definitions : List Definition) where
       subst (λ e. AllZip (λ d t. Concludes definitions d (LeafOf e) t) (ByPrefix ∷ []) (leaf_transition a r next ∷ [])) (sym h) (refl, tt)
   conclusions e (OpenChoice p q) (x, y, e_is, opens_x, opens_y) =
       subst (λ e. AllZip (λ d t. Concludes definitions d (LeafOf e) t) (map ByLeft (derivations_of p) ++ map ByRight (derivations_of q)) (moves p ++ moves q)) (sym e_is)
-          (AllZip-append (λ d t. Concludes definitions d (LeafOf (Chosen x y)) t) (map ByLeft (derivations_of p)) (map ByRight (derivations_of q)) (moves p) (moves q)
-              (AllZip-map (λ d t. Concludes definitions d (LeafOf x) t) (λ d t. Concludes definitions d (LeafOf (Chosen x y)) t) ByLeft (λ d t k. k) (derivations_of p) (moves p) (conclusions x p opens_x))
-              (AllZip-map (λ d t. Concludes definitions d (LeafOf y) t) (λ d t. Concludes definitions d (LeafOf (Chosen x y)) t) ByRight (λ d t k. k) (derivations_of q) (moves q) (conclusions y q opens_y)))
+      (AllZip-append (λ d t. Concludes definitions d (LeafOf (Chosen x y)) t) (map ByLeft (derivations_of p)) (map ByRight (derivations_of q)) (moves p) (moves q)
+      (AllZip-map (λ d t. Concludes definitions d (LeafOf x) t) (λ d t. Concludes definitions d (LeafOf (Chosen x y)) t) ByLeft (λ d t k. k) (derivations_of p) (moves p) (conclusions x p opens_x))
+      (AllZip-map (λ d t. Concludes definitions d (LeafOf y) t) (λ d t. Concludes definitions d (LeafOf (Chosen x y)) t) ByRight (λ d t k. k) (derivations_of q) (moves q) (conclusions y q opens_y)))
   conclusions e (OpenConst c p) (e_is, (body, defined, opens_body)) =
       subst (λ e. AllZip (λ d t. Concludes definitions d (LeafOf e) t) (map ByConstant (derivations_of p)) (moves p)) (sym e_is)
-          (AllZip-map (λ d t. Concludes definitions d (LeafOf body) t) (λ d t. Concludes definitions d (LeafOf (Const c)) t) ByConstant (λ d t k. (body, defined, k)) (derivations_of p) (moves p) (conclusions body p opens_body))
+      (AllZip-map (λ d t. Concludes definitions d (LeafOf body) t) (λ d t. Concludes definitions d (LeafOf (Const c)) t) ByConstant (λ d t k. (body, defined, k)) (derivations_of p) (moves p) (conclusions body p opens_body))
 
   same_body : (c : ℕ) (x y : Expression) → Defines definitions c x → Defines definitions c y → x ≡ y
   same_body c x y h k = cc

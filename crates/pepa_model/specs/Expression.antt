@@ -1,6 +1,6 @@
 -- The components of PEPA (J. Hillston, A Compositional Approach to Performance Modelling, 1996, chapter 3), as they are
 -- written: no leaf numbers, and no pointers.
-use Rattle.std.specs.Prelude.{◌≡◌, ℕ, Option, Some, List, slice_get}
+use Rattle.std.specs.Prelude.{◌≡◌, ℕ, Some, List, slice_get}
 use Rattle.pepa_rates.specs.declared.rate.Rate.{Rate}
 use Rattle.pepa_model.specs.declared.term.Sequential.{Sequential, Constant, Prefix', Choice'}
 use Rattle.pepa_model.specs.declared.term.Body.{Body}

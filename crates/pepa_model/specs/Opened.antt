@@ -1,6 +1,6 @@
 -- Sequential components with their constants opened. A constant stands for its body, so an expression in which no
 -- constant reaches itself without passing a prefix opens into a finite tree, and into one only.
-use Rattle.std.specs.Prelude.{◌≡◌, ℕ, suc, ◌+◌, max, List, [], ◌∷◌, ◌++◌}
+use Rattle.std.specs.Prelude.{◌≡◌, ℕ, ◌+◌, max, List, [], ◌∷◌, ◌++◌}
 use Rattle.pepa_rates.specs.declared.rate.Rate.{Rate}
 use Rattle.pepa_model.specs.Expression.{Expression, Const, Prefixed, Chosen, Definition, Defines}
 use Rattle.pepa_model.specs.Derivation.{Transition, leaf_transition}

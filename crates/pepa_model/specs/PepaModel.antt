@@ -1,7 +1,7 @@
 -- A model as contracts see it, and what holds of each.
-use Rattle.std.specs.Prelude.{◌≡◌, ℕ, ◌^◌, ◌<◌, ◌≤◌, Some, List, slice_get, length, codes, ⊤}
+use Rattle.std.specs.Prelude.{◌≡◌, ℕ, ◌^◌, ◌<◌, ◌≤◌, Some, List, slice_get, length, codes}
 use Rattle.std.specs.List.{AllByRecursion, AllZip}
-use Rattle.pepa_model.specs.Expression.{Expression, Const, Prefixed, Chosen, WordTerm, LeafOf, Definition, expression_of}
+use Rattle.pepa_model.specs.Expression.{Expression, Const, Prefixed, Chosen, LeafOf, Definition, expression_of}
 use Rattle.pepa_model.specs.Derivation.{Transition, IsTransitionList}
 use Rattle.pepa_model.specs.Opened.{Opened, Opens, moves, height}
 use Rattle.pepa_model.specs.declared.term.Activity.{Activity}

@@ -1,5 +1,5 @@
 -- What the terms and steps of the program stand for.
-use Rattle.std.specs.Prelude.{◌≡◌, ◌==◌, ℕ, ◌<◌, ◌≤◌, Some, List, slice_get, length, if◌then◌else◌}
+use Rattle.std.specs.Prelude.{◌≡◌, ◌==◌, ℕ, ◌<◌, Some, slice_get, length, if◌then◌else◌}
 use Rattle.pepa_model.specs.Expression.{Expression, WordTerm, LeafOf}
 use Rattle.pepa_model.specs.Derivation.{Transition}
 use Rattle.pepa_model.specs.PepaModel.{PepaModel}

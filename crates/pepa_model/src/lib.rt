@@ -1,6 +1,7 @@
 //! The model of a PEPA system, its terms, and the definitions of PEPA.
 #![tactic(auto)]
 
+pub mod laws;
 mod model;
 mod name;
 mod term;

@@ -29,7 +29,6 @@ pub struct Model {
 
 impl std::marker::Model for Model {
     ghost use Rattle.pepa_model.specs.PepaModel.{PepaModel};
-
     ghost use Rattle.pepa_model.specs.ExpressionCode.{expression_code};
     ghost use Rattle.std.specs.Coded.{codes};
 
@@ -50,6 +49,30 @@ impl Model {
         ensures { IsModel self.now }
     {
         let _sets = &self.sets;
+    }
+
+    /// The name of an action type.
+    pub fn action_name(&self, action: u32) -> &Name
+        requires { action < length self.now.actions }
+        ensures { slice_get self.now.actions action ≡ Some result.now }
+    {
+        let actions = &self.actions;
+        match actions.get_index(action as usize) {
+            Some((name, _)) => name,
+            None => unreachable!(),
+        }
+    }
+
+    /// The name of a constant.
+    pub fn constant_name(&self, constant: u32) -> &Name
+        requires { constant < length self.now.constants }
+        ensures { slice_get self.now.constants constant ≡ Some result.now }
+    {
+        let constants = &self.constants;
+        match constants.get_index(constant as usize) {
+            Some((name, _)) => name,
+            None => unreachable!(),
+        }
     }
 
     /// A leaf's expression.

@@ -7,6 +7,10 @@ pub mod PiecesLemmas
 pub mod NumberLemmas
 pub mod SmallTextLemmas
 pub mod SmallReadingLemmas
+pub mod LineLemmas
+pub mod WordLists
+pub mod Verdicts
+pub mod Printable
 pub mod NumberingNames
 pub mod NumberingLists
 pub mod NumberingSteps

@@ -1,6 +1,7 @@
 -- What the readers of the parts owe at each of their exits.
 use Rattle.std.proofs.Common.{◌≡◌, ◌≢◌, ℕ, ◌+◌, ◌*◌, ◌≤◌, List, [], ◌∷◌, ◌++◌, length, Err, refl, sym, ap, subst, ◌∙◌, append_assoc, arith, length-append}
 use Rattle.std.specs.List.{flat_map, AllByRecursion}
+use Rattle.std.proofs.lemmas.List.{append-nil}
 use Rattle.sim_command.specs.Pieces.{Piece, Capital, equals, semicolon, plus, pieces_of}
 use Rattle.sim_command.specs.SmallText.{prefix_spelling, further_spelling, line_spelling, IsInRange, IsLine, IsText, ReadsText}
 use Rattle.sim_command.specs.SmallReading.{sum_spelling, IsSum, Reads}
@@ -100,3 +101,18 @@ text_fails rest_of bytes done left Unsupported so_far proper no_system given = �
     at_rest : (system : List ℕ) (rest : List SmallLine) → AllByRecursion IsLine rest → left ≡ flat_map line_spelling rest ++ Capital system ∷ [] → ⊥
     at_rest system [] all spelled = no_system system spelled
     at_rest system (l ∷ rest) all spelled = given l (flat_map line_spelling rest ++ Capital system ∷ []) all.0 (spelled ∙ append_assoc (line_spelling l) (flat_map line_spelling rest) (Capital system ∷ []))
+
+abbrev made_text : List SmallLine → List ℕ → SmallText
+made_text lines system = record { lines = lines; system = system }
+
+pub same_text : (bytes : List ℕ) (s t : SmallText) → IsText bytes s → IsText bytes t → s ≡ t
+same_text bytes s t first second =
+    let on = lines_go_on s.lines t.lines (Capital s.system ∷ []) t.system first.lines second.lines (sym first.spelled ∙ second.spelled) in
+    at_rest on.rest on.whole on.spelled
+  where
+    at_rest : (rest : List SmallLine) → t.lines ≡ s.lines ++ rest → Capital s.system ∷ [] ≡ flat_map line_spelling rest ++ Capital t.system ∷ [] → s ≡ t
+    at_rest [] whole spelled =
+        let lines : s.lines ≡ t.lines = sym (append-nil s.lines) ∙ sym whole in
+        let system : s.system ≡ t.system = cc in
+        ap (λ (ls : List SmallLine). made_text ls s.system) lines ∙ ap (λ (name : List ℕ). made_text t.lines name) system
+    at_rest (l ∷ rest) whole spelled = absurd cc

@@ -5,4 +5,7 @@ pub mod Pieces
 pub mod Tokens
 pub mod SmallText
 pub mod SmallReading
+pub mod FaultLine
+pub mod Words
+pub mod StepsText
 pub mod Numbering

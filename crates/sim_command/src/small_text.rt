@@ -2,7 +2,7 @@
 
 ghost use Rattle.std.specs.Prelude.{◌≡◌, ◌≢◌, ℕ, ◌≤◌, List, [], ◌∷◌, ◌++◌, IfOk, MatchOption};
 ghost use Rattle.sim_command.specs.Pieces.{Piece, Capital, Number, equals, pieces_of};
-ghost use Rattle.sim_command.specs.SmallText.{IsInRange, IsLine, prefix_spelling, line_spelling, ReadsText};
+ghost use Rattle.sim_command.specs.SmallText.{IsInRange, IsLine, prefix_spelling, line_spelling, IsText, ReadsText};
 ghost use Rattle.sim_command.specs.SmallReading.{prefix_of, IsSum, sum_spelling, Reads};
 
 use crate::pieces::{after_sign, capital, is_blank, number, small};
@@ -184,3 +184,11 @@ pub(crate) fn read_text(alloc: Global, input: &[u8]) -> Result<SmallText, TextFa
         rest = after;
     }
 }
+
+/// A law: the bytes spell at most one text.
+pub(crate) fn one_text()
+    ensures { (bytes : List ℕ) (first second : SmallText) → IsText bytes first → IsText bytes second → first ≡ second }
+{}
+
+#[cfg(test)]
+mod tests;

@@ -1,0 +1,38 @@
+-- The line that tells a fault.
+use Rattle.std.specs.Prelude.{ℕ, List, [], ◌∷◌, ◌++◌, codes, decimal}
+use Rattle.sim_command.specs.declared.fault.Place.{Place}
+use Rattle.sim_command.specs.declared.fault.FaultName.{FaultName}
+use Rattle.sim_command.specs.declared.fault.FaultName.TheVariants.{Unsupported}
+use Rattle.sim_command.specs.declared.fault.Stop.{Stop}
+use Rattle.sim_command.specs.declared.fault.Stop.TheVariants.{Mixed, Overflow, ListTooLong, PassiveLeft, WeightOverflow, TimeOverflow, DrawLimit}
+use Rattle.sim_command.specs.declared.fault.Fault.{Fault}
+use Rattle.sim_command.specs.declared.fault.Fault.TheVariants.{Memory, Usage, TooLong, Model, ReadFault, WriteFault, StepsStopped}
+
+abbrev pub name_text : FaultName → List ℕ
+name_text Unsupported = codes "unsupported"
+
+abbrev pub stop_text : Stop → List ℕ
+stop_text Mixed = codes "mixed"
+stop_text Overflow = codes "overflow"
+stop_text ListTooLong = codes "list too long"
+stop_text PassiveLeft = codes "passive left"
+stop_text WeightOverflow = codes "weight overflow"
+stop_text TimeOverflow = codes "time overflow"
+stop_text DrawLimit = codes "draw limit"
+
+-- a place as its line and its column
+abbrev pub place_text : Place → List ℕ
+place_text place = decimal place.line ++ codes ":" ++ decimal place.column
+
+abbrev pub fault_words : Fault → List ℕ
+fault_words Memory = codes "memory"
+fault_words Usage = codes "usage"
+fault_words TooLong = codes "model too long"
+fault_words (Model place name) = codes "model " ++ place_text place ++ codes " " ++ name_text name
+fault_words ReadFault = codes "read fault"
+fault_words WriteFault = codes "write fault"
+fault_words (StepsStopped stop) = codes "stopped: " ++ stop_text stop
+
+-- the words, and a line feed
+abbrev pub fault_text : Fault → List ℕ
+fault_text fault = fault_words fault ++ 10 ∷ []

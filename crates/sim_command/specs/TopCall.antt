@@ -1,0 +1,124 @@
+-- How a call of the program ends.
+use Rattle.std.specs.Prelude.{◌≡◌, ℕ, ◌<◌, ◌≤◌, ◌^◌, Option, None, Some, List, [], length, take, ◌⊎◌, Err}
+use Rattle.sim_outside.specs.Faults.{Rose}
+use Rattle.sim_outside.specs.Sink.{Grows}
+use Rattle.sim_outside.specs.ReadAll.{ReadsToEnd}
+use Rattle.sim_outside.specs.declared.reading.ReadEnd.TheVariants.{ReadFault, TooLong}
+use Rattle.sim_command.specs.declared.fault.Fault.TheVariants as faults
+use Rattle.sim_command.specs.declared.answer.Answered.{Answered}
+use Rattle.sim_command.specs.declared.words.Command.{Command}
+use Rattle.sim_command.specs.declared.words.Command.TheVariants.{Steps}
+use Rattle.sim_command.specs.Words.{IsCommand}
+use Rattle.sim_command.specs.FaultLine.{fault_text}
+use Rattle.sim_command.specs.Answer.{IsAnswer}
+
+-- a device before a call and after it: the bytes left to read, or written so far, where it tells them, and its faults
+pub record Seen : Type 0 where
+  pub before : Option (List ℕ)
+  pub after : Option (List ℕ)
+  pub faults : ℕ
+  pub faults_after : ℕ
+
+-- where they are told, these were all the bytes left, and none is left now
+abbrev pub AreAllLeft : Option (List ℕ) → Option (List ℕ) → List ℕ → Type 0
+AreAllLeft None after input = Unit {0}
+AreAllLeft (Some left) after input = (input ≡ left) × (after ≡ Some [])
+
+-- nothing was asked of the device
+pub record IsUntouched (device : Seen) : Type 0 where
+  pub bytes : device.after ≡ device.before
+  pub faults : device.faults_after ≡ device.faults
+
+-- the bytes written grew by these
+abbrev pub Wrote : Seen → List ℕ → Type 0
+Wrote device piece = Grows device.before device.after piece
+
+-- a write failed, and only a front of these was written
+pub record WroteFront (device : Seen) (piece : List ℕ) : Type 0 where
+  pub failed : Rose device.faults device.faults_after
+  pub count : ℕ
+  pub short : count < length piece
+  pub wrote : Wrote device (take count piece)
+
+-- status 2: the words give no command, and nothing is read or written
+pub record EndsInUsage (words : List (List ℕ)) (source out : Seen) (line : List ℕ) (status : ℕ) : Type 0 where
+  pub no_command : (command : Command) → ¬ IsCommand words command
+  pub status_is : status ≡ 2
+  pub source_stays : IsUntouched source
+  pub out_stays : IsUntouched out
+  pub line_is : line ≡ fault_text faults.Usage
+
+-- status 1: the memory ran out
+pub record EndsInMemory (out : Seen) (line : List ℕ) (status : ℕ) : Type 0 where
+  pub status_is : status ≡ 1
+  pub out_stays : IsUntouched out
+  pub line_is : line ≡ fault_text faults.Memory
+
+-- status 4: a read failed
+pub record EndsInReadFault (words : List (List ℕ)) (source out : Seen) (line : List ℕ) (status : ℕ) : Type 0 where
+  pub command : IsCommand words Steps
+  pub failed : Rose source.faults source.faults_after
+  pub read : ReadsToEnd source.before source.after (2 ^ 20) (Err ReadFault)
+  pub status_is : status ≡ 4
+  pub out_stays : IsUntouched out
+  pub line_is : line ≡ fault_text faults.ReadFault
+
+-- status 3: more than 2^20 bytes came
+pub record EndsTooLong (words : List (List ℕ)) (source out : Seen) (line : List ℕ) (status : ℕ) : Type 0 where
+  pub command : IsCommand words Steps
+  pub read : ReadsToEnd source.before source.after (2 ^ 20) (Err TooLong)
+  pub status_is : status ≡ 3
+  pub out_stays : IsUntouched out
+  pub line_is : line ≡ fault_text faults.TooLong
+
+-- the input was read to its end, and this is the answer to it
+pub record IsAnswered (words : List (List ℕ)) (source : Seen) (answer : Answered) : Type 0 where
+  pub command : IsCommand words Steps
+  pub input : List ℕ
+  pub few : length input ≤ 2 ^ 20
+  pub read : AreAllLeft source.before source.after input
+  pub is : IsAnswer input answer
+
+-- status 0, 3 or 6: the answer's, and its bytes are written
+pub record EndsInAnswer (words : List (List ℕ)) (source out : Seen) (line : List ℕ) (status : ℕ) : Type 0 where
+  pub answer : Answered
+  pub answered : IsAnswered words source answer
+  pub status_is : status ≡ answer.status
+  pub wrote : Wrote out answer.out
+  pub line_is : line ≡ answer.line
+
+-- status 5: the answer has status 0, and a write of its bytes failed
+pub record EndsInWriteFault (words : List (List ℕ)) (source out : Seen) (line : List ℕ) (status : ℕ) : Type 0 where
+  pub answer : Answered
+  pub answered : IsAnswered words source answer
+  pub listed : answer.status ≡ 0
+  pub status_is : status ≡ 5
+  pub wrote : WroteFront out answer.out
+  pub line_is : line ≡ fault_text faults.WriteFault
+
+-- how a call ends: with its status, and the line that tells a fault
+abbrev pub IsEnding : List (List ℕ) → Seen → Seen → List ℕ → ℕ → Type 0
+IsEnding words source out line status =
+    EndsInUsage words source out line status
+    ⊎ (EndsInMemory out line status
+    ⊎ (EndsInReadFault words source out line status
+    ⊎ (EndsTooLong words source out line status
+    ⊎ (EndsInAnswer words source out line status ⊎ EndsInWriteFault words source out line status))))
+
+-- the line is written, or a front of it where a write failed
+abbrev pub IsTold : Seen → List ℕ → Type 0
+IsTold device line = Wrote device line ⊎ WroteFront device line
+
+abbrev pub seen : Option (List ℕ) → Option (List ℕ) → ℕ → ℕ → Seen
+seen before after faults faults_after = record { before = before; after = after; faults = faults; faults_after = faults_after }
+
+-- an answer is delivered: its bytes are written, or a write of them failed
+abbrev pub IsDelivery : Answered → Seen → List ℕ → ℕ → Type 0
+IsDelivery answer out line status =
+    ((status ≡ answer.status) × Wrote out answer.out × (line ≡ answer.line))
+    ⊎ ((status ≡ 5) × WroteFront out answer.out × (line ≡ fault_text faults.WriteFault))
+
+-- the input is answered, and the answer delivered, or the memory ran out
+abbrev pub IsInputEnding : List ℕ → Seen → List ℕ → ℕ → Type 0
+IsInputEnding input out line status =
+    EndsInMemory out line status ⊎ ((answer : Answered) × IsAnswer input answer × IsDelivery answer out line status)

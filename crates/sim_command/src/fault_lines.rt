@@ -1,0 +1,80 @@
+ghost use Rattle.std.specs.Prelude.{◌≡◌, ◌++◌, ◌+◌, ◌≤◌, [], length};
+ghost use Rattle.sim_command.specs.FaultLine.{fault_text, fault_words, name_text, stop_text};
+
+use crate::fault::{Fault, FaultName, Place, Stop};
+use crate::line::Line;
+
+/// The line that tells a fault, with its line feed.
+pub fn fault_line(fault: &Fault) -> Line
+    ensures { result ≡ fault_text fault.now }
+{
+    let mut line = words(fault);
+    line.push(b'\n');
+    line
+}
+
+fn words(fault: &Fault) -> Line
+    ensures words { result ≡ fault_words fault.now }
+    ensures room { length result ≤ 100 }
+{
+    match fault {
+        Fault::Memory => of_text(b"memory"),
+        Fault::Usage => of_text(b"usage"),
+        Fault::TooLong => of_text(b"model too long"),
+        Fault::Model { place, name } => model_words(place, name),
+        Fault::ReadFault => of_text(b"read fault"),
+        Fault::WriteFault => of_text(b"write fault"),
+        Fault::StepsStopped { stop } => stop_words(stop),
+    }
+}
+
+fn of_text(text: &[u8]) -> Line
+    requires { length text.now ≤ 100 }
+    ensures { result ≡ text.now }
+{
+    let mut line = Line::empty();
+    line.push_text(text);
+    line
+}
+
+fn model_words(place: &Place, name: &FaultName) -> Line
+    ensures words { result ≡ fault_words (Fault.Model place.now name.now) }
+    ensures room { length result ≤ 100 }
+{
+    let mut line = of_text(b"model ");
+    line.push_decimal(place.line);
+    line.push(b':');
+    line.push_decimal(place.column);
+    line.push(b' ');
+    line.push_text(match name {
+        FaultName::Unsupported => b"unsupported",
+    });
+    line
+}
+
+fn stop_words(stop: &Stop) -> Line
+    ensures words { result ≡ fault_words (Fault.StepsStopped stop.now) }
+    ensures room { length result ≤ 100 }
+{
+    let mut line = of_text(b"stopped: ");
+    line.push_text(stop_name(stop));
+    line
+}
+
+fn stop_name(stop: &Stop) -> &[u8]
+    ensures name { result.now ≡ stop_text stop.now }
+    ensures room { length result.now ≤ 20 }
+{
+    match stop {
+        Stop::Mixed => b"mixed",
+        Stop::Overflow => b"overflow",
+        Stop::ListTooLong => b"list too long",
+        Stop::PassiveLeft => b"passive left",
+        Stop::WeightOverflow => b"weight overflow",
+        Stop::TimeOverflow => b"time overflow",
+        Stop::DrawLimit => b"draw limit",
+    }
+}
+
+#[cfg(test)]
+mod tests;

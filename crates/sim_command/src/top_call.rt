@@ -1,0 +1,141 @@
+//! The whole program, over any source and sinks.
+ghost use Rattle.std.specs.Prelude.{◌≡◌, ℕ, ◌≤◌, ◌^◌, List, length, map};
+ghost use Rattle.std.specs.String.{string_bytes};
+ghost use Rattle.sim_command.specs.FaultLine.{fault_text};
+ghost use Rattle.sim_command.specs.Words.{IsCommand};
+ghost use Rattle.sim_command.specs.TopCall.{IsEnding, IsInputEnding, IsDelivery, IsTold, seen};
+
+use crate::answer::{Answered, answer_steps};
+use crate::fault::Fault;
+use crate::fault_lines::fault_line;
+use crate::line::Line;
+use crate::words::{Command, WordsFault, read_words};
+use sim_outside::{ReadEnd, Sink, Source, read_all, write_all};
+use std::alloc::Global;
+
+/// How many bytes an input has at most.
+const MOST_BYTES: usize = 1 << 20;
+
+/// How a call ends: its status, and the line that tells a fault, which is empty at status 0.
+#[derive(Drop)]
+pub(crate) struct Ending {
+    pub status: u8,
+    pub line: Line,
+}
+
+/// Reads the input that the words ask for, writes the answer to `out` and the fault's line to `err`, and answers the
+/// status:
+///
+/// - 0: the answer is written on `out` in full;
+/// - 1: the memory ran out;
+/// - 2: the words give no command;
+/// - 3: the input is refused;
+/// - 4: a read failed;
+/// - 5: a write of the answer failed;
+/// - 6: the verdict on the model names a stop.
+///
+/// A failing `err` changes no status.
+pub fn pepaprobe<S: Source, K: Sink, E: Sink>(
+    alloc: Global,
+    words: &[String],
+    source: &mut S,
+    out: &mut K,
+    err: &mut E,
+) -> u8
+    ensures {
+        (line : List ℕ)
+        × IsEnding (map string_bytes words.now)
+            (seen (S.left source.old) (S.left source.new) (S.faults source.old) (S.faults source.new))
+            (seen (K.written out.old) (K.written out.new) (K.faults out.old) (K.faults out.new))
+            line result
+        × IsTold (seen (E.written err.old) (E.written err.new) (E.faults err.old) (E.faults err.new)) line
+    }
+{
+    let Ending { status, line } = run(alloc, words, source, out);
+    let _ = write_all(err, line.as_slice());
+    status
+}
+
+// All but the fault's line.
+fn run<S: Source, K: Sink>(
+    alloc: Global,
+    words: &[String],
+    source: &mut S,
+    out: &mut K,
+) -> Ending
+    ensures {
+        IsEnding (map string_bytes words.now)
+            (seen (S.left source.old) (S.left source.new) (S.faults source.old) (S.faults source.new))
+            (seen (K.written out.old) (K.written out.new) (K.faults out.old) (K.faults out.new))
+            result.line result.status
+    }
+{
+    match read_words(alloc, words) {
+        Ok(Command::Steps) => run_steps(alloc, source, out),
+        Err(WordsFault::Usage) => refused(2, &Fault::Usage),
+        Err(WordsFault::Memory) => refused(1, &Fault::Memory),
+    }
+}
+
+// Reads the input and answers it.
+fn run_steps<S: Source, K: Sink>(alloc: Global, source: &mut S, out: &mut K) -> Ending
+    ensures {
+        (words : List (List ℕ)) → IsCommand words Command.Steps
+        → IsEnding words
+            (seen (S.left source.old) (S.left source.new) (S.faults source.old) (S.faults source.new))
+            (seen (K.written out.old) (K.written out.new) (K.faults out.old) (K.faults out.new))
+            result.line result.status
+    }
+{
+    match read_all(alloc, source, MOST_BYTES) {
+        Ok(input) => answer_input(alloc, input.as_slice(), out),
+        Err(ReadEnd::ReadFault) => refused(4, &Fault::ReadFault),
+        Err(ReadEnd::TooLong) => refused(3, &Fault::TooLong),
+        Err(ReadEnd::Memory) => refused(1, &Fault::Memory),
+    }
+}
+
+// Answers an input that was read.
+fn answer_input<K: Sink>(alloc: Global, input: &[u8], out: &mut K) -> Ending
+    requires { length input.now ≤ 2 ^ 20 }
+    ensures {
+        IsInputEnding input.now
+            (seen (K.written out.old) (K.written out.new) (K.faults out.old) (K.faults out.new))
+            result.line result.status
+    }
+{
+    match answer_steps(alloc, input) {
+        Ok(answered) => deliver(answered, out),
+        Err(_error) => refused(1, &Fault::Memory),
+    }
+}
+
+// Writes the bytes of an answer.
+fn deliver<K: Sink>(answered: Answered, out: &mut K) -> Ending
+    ensures {
+        IsDelivery answered
+            (seen (K.written out.old) (K.written out.new) (K.faults out.old) (K.faults out.new))
+            result.line result.status
+    }
+{
+    let Answered {
+        status,
+        out: bytes,
+        line,
+    } = answered;
+    match write_all(out, bytes.as_slice()) {
+        Ok(()) => Ending { status, line },
+        Err(_failed) => refused(5, &Fault::WriteFault),
+    }
+}
+
+// Ends with a fault.
+fn refused(status: u8, fault: &Fault) -> Ending
+    ensures status { result.status ≡ status }
+    ensures line { result.line ≡ fault_text fault.now }
+{
+    Ending {
+        status,
+        line: fault_line(fault),
+    }
+}

@@ -1,0 +1,33 @@
+ghost use Rattle.std.specs.Prelude.{map, string_bytes};
+ghost use Rattle.sim_command.specs.Words.{ReadsWords};
+
+use std::alloc::Global;
+
+/// What the program is to do.
+#[derive(Clone, Copy, Debug, PartialEq, Eq)]
+pub enum Command {
+    /// Print the transitions of a system.
+    Steps,
+}
+
+/// Why the words of a call weren't read.
+#[derive(Clone, Copy, Debug, PartialEq, Eq)]
+pub enum WordsFault {
+    /// They are no command.
+    Usage,
+    /// The memory ran out.
+    Memory,
+}
+
+/// The command that the words of a call give, or that they give none.
+pub fn read_words(_alloc: Global, words: &[String]) -> Result<Command, WordsFault>
+    ensures { ReadsWords (map string_bytes words.now) result }
+{
+    match words {
+        [word] if word.as_str() == "steps" => Ok(Command::Steps),
+        _ => Err(WordsFault::Usage),
+    }
+}
+
+#[cfg(test)]
+mod tests;
