@@ -103,6 +103,17 @@ all_map P f each (x ∷ xs) = (each x, all_map P f each xs)
 got_map : {X Y : Type 0} (f : X → Y) (xs : List X) (number : ℕ) (x : X) → slice_get xs number ≡ Some x → slice_get (map f xs) number ≡ Some (f x)
 got_map f xs number x at = slice_get-map f xs number ∙ ap (option_map f) at
 
+some_constant : (name : List ℕ) (names : List (List ℕ)) → Among name names → 0 < length names
+some_constant name [] h = absurd h
+some_constant name (other ∷ names) h = omega arith
+
+-- the system's constant is a leaf, with the same number
+pub system_leaf : (text : SmallText) → IsWellNamed text → slice_get (model_of text).leaves (number_in (constants_of text.lines) text.system) ≡ Some (Const (number_in (constants_of text.lines) text.system))
+system_leaf text named =
+    let count : length (constants_of text.lines) ≡ length text.lines = length-map text.lines (λ line. line.name) in
+    let inside = number_within (constants_of text.lines) text.system (some_constant text.system (constants_of text.lines) named.system) in
+    leaf_at (length text.lines) (number_in (constants_of text.lines) text.system) (omega arith)
+
 -- ---- the model
 
 module _ (text : SmallText) (are_lines : AllByRecursion IsLine text.lines) (few : length text.lines ≤ 1024) (named : IsWellNamed text) where
@@ -141,10 +152,6 @@ module _ (text : SmallText) (are_lines : AllByRecursion IsLine text.lines) (few 
         named = omega arith;
       }
 
-  some_constant : (name : List ℕ) (names : List (List ℕ)) → Among name names → 0 < length names
-  some_constant name [] h = absurd h
-  some_constant name (other ∷ names) h = omega arith
-
   pub is_model : IsModel (model_of text)
   is_model = record {
     bodies = length-map (activities_of (constants_of text.lines) (actions_of text.lines) text.lines) definition_of_activities ∙ length-map text.lines line_list ∙ sym constant_count;
@@ -155,8 +162,5 @@ module _ (text : SmallText) (are_lines : AllByRecursion IsLine text.lines) (few 
         subst (IsSoundLeaf (model_of text) number) same (sound_leaf number lt);
     activities = length-map text.lines line_list ∙ sym (length-map-range_with_len Const 0 (length text.lines));
     few_leaves = let len : length (leaves_of (length text.lines)) ≡ length text.lines = length-map-range_with_len Const 0 (length text.lines) in omega arith;
-    system =
-        let count = constant_count in
-        let inside = number_within (constants_of text.lines) text.system (some_constant text.system (constants_of text.lines) named.system) in
-        (number_in (constants_of text.lines) text.system, leaf_at (length text.lines) (number_in (constants_of text.lines) text.system) (omega arith));
+    system = (number_in (constants_of text.lines) text.system, system_leaf text named);
   }

@@ -240,7 +240,10 @@ pub(crate) fn number_text(alloc: Global, text: &SmallText) -> Result<Model, Text
     })
 }
 
-/// A text has at most one model.
-pub fn one_model_for_each_text()
+/// A law: a text has at most one model.
+pub(crate) fn one_model()
     ensures { (text : SmallText) (m n : PepaModel) → IsModelOf text m → IsModelOf text n → m ≡ n }
 {}
+
+#[cfg(test)]
+mod tests;
