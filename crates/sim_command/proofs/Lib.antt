@@ -14,3 +14,7 @@ pub mod Printable
 pub mod NumberingNames
 pub mod NumberingLists
 pub mod NumberedModel
+pub mod NumberingSteps
+pub mod NumberedText
+pub mod Answers
+pub mod Endings

@@ -1,5 +1,5 @@
 -- Names in lists: which stand there, at which place, and how often.
-use Rattle.std.proofs.Common.{◌≡◌, ℕ, suc, ◌+◌, ◌<◌, ◌≤◌, Bool, true, false, cond, not, ◌||◌, if◌then◌else◌, List, [], ◌∷◌, ◌++◌, map, length, get_or, filter, Option, Some, None, is_some, is_none, position, unwrap_or, bytes_eq, nat_lt, ◌⊎◌, inl, inr, ⊎_elim, refl, sym, ap, ◌∙◌, subst, arith, append_assoc}
+use Rattle.std.proofs.Common.{◌≡◌, ℕ, suc, ◌+◌, ◌<◌, Bool, true, false, cond, not, ◌||◌, if◌then◌else◌, List, [], ◌∷◌, ◌++◌, length, Option, Some, None, is_some, is_none, position, unwrap_or, bytes_eq, nat_lt, ◌⊎◌, inl, inr, refl, sym, ap, ◌∙◌, subst, arith}
 use Rattle.std.specs.List.{list_any, position_or_len}
 use Rattle.std.specs.Map.{keys_of, lookup}
 use Rattle.std.proofs.lemmas.Bool.Decides.{nat_tests}
@@ -110,7 +110,11 @@ any-without x name (other ∷ names) apart =
 with_name-there : (names : Names) (name : List ℕ) → list_any (bytes_eq name) names ≡ true → with_name names name ≡ names
 with_name-there names name e = ap (λ (b : Bool). if b then names else (names ++ name ∷ [])) e
 
-with_name-new : (names : Names) (name : List ℕ) → list_any (bytes_eq name) names ≡ false → with_name names name ≡ names ++ name ∷ []
+pub without_any : (b : Bool) → not b ≡ true → b ≡ false
+without_any true h = absurd cc
+without_any false h = refl
+
+pub with_name-new : (names : Names) (name : List ℕ) → list_any (bytes_eq name) names ≡ false → with_name names name ≡ names ++ name ∷ []
 with_name-new names name e = ap (λ (b : Bool). if b then names else (names ++ name ∷ [])) e
 
 without-push : (x name : List ℕ) (names : Names) (b : Bool) → bytes_eq x name ≡ b → without x (names ++ name ∷ []) ≡ without x names ++ (cond (not b) (name ∷ []) [])
@@ -141,6 +145,7 @@ without-with_name x name names =
           | inl a ↦ ap (without x) (with_name-there names name a)
           | inr a ↦ ap (without x) (with_name-new names name a) ∙ without-push x name names true back ∙ append-nothing (without x names)
         ]
+
     other : bytes_eq name x ≡ false → x ∷ without x (with_name names name) ≡ with_name (x ∷ without x names) name
     other e =
         let kept : list_any (bytes_eq name) (x ∷ without x names) ≡ list_any (bytes_eq name) names = ap (λ (b : Bool). b || list_any (bytes_eq name) (without x names)) e ∙ any-without x name names e in
@@ -178,9 +183,10 @@ Among-push x y (name ∷ names) (inr h) = elim (Among-push x y names h) [ inl e 
 
 pub AreDistinct-push : (names : Names) (name : List ℕ) → AreDistinct names → ¬ Among name names → AreDistinct (names ++ name ∷ [])
 AreDistinct-push [] name distinct new = (λ h. h, tt)
-AreDistinct-push (x ∷ names) name distinct new =
-    (λ h. elim (Among-push x name names h) [ inl e ↦ new (inl (sym e)) | inr k ↦ distinct.0 k ],
-    AreDistinct-push names name distinct.1 (λ h. new (inr h)))
+AreDistinct-push (x ∷ names) name distinct new = (
+  λ h. elim (Among-push x name names h) [ inl e ↦ new (inl (sym e)) | inr k ↦ distinct.0 k ],
+  AreDistinct-push names name distinct.1 (λ h. new (inr h)),
+)
 
 Among-middle : (name : List ℕ) (names more : Names) → Among name (names ++ name ∷ more)
 Among-middle name [] more = inl refl

@@ -26,11 +26,7 @@ const MOST_ACTIONS: usize = 1024;
 const MOST_PREFIXES: usize = 65_535;
 
 /// Puts a copy of the name behind the others, and tells whether it wasn't there.
-fn add_name(
-    alloc: Global,
-    names: &mut IndexMap<Name, ()>,
-    name: &Name,
-) -> Result<bool, AllocError>
+fn add_name(alloc: Global, names: &mut IndexMap<Name, ()>, name: &Name) -> Result<bool, AllocError>
     ensures { IfOk result (λ added. (keys names.new ≡ with_name (keys names.old) name.now) × (added ≡ not (list_any (bytes_eq name.now) (keys names.old)))) }
 {
     let old = names.insert(name.copy(alloc)?, ())?;
@@ -244,7 +240,10 @@ pub(crate) fn number_text(alloc: Global, text: &SmallText) -> Result<Model, Text
     })
 }
 
-/// A text has at most one model.
-pub fn one_model_for_each_text()
+/// A law: a text has at most one model.
+pub(crate) fn one_model()
     ensures { (text : SmallText) (m n : PepaModel) → IsModelOf text m → IsModelOf text n → m ≡ n }
 {}
+
+#[cfg(test)]
+mod tests;

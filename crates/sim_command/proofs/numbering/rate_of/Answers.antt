@@ -1,4 +1,4 @@
-use Rattle.std.proofs.Common.{◌<◌, ◌^◌, subst, sym}
+use Rattle.std.proofs.Common.{subst, sym}
 use Rattle.pepa_rates.specs.Fraction.{reduced, InRange}
 use Rattle.sim_command.proofs.NumberingLists.{whole-in_range}
 use Rattle.sim_command.proofs.numbering.rate_of.Goals as goal
