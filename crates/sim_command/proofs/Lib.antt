@@ -18,3 +18,4 @@ pub mod NumberingSteps
 pub mod NumberedText
 pub mod Answers
 pub mod Endings
+pub mod OneAnswer

@@ -6,6 +6,7 @@ mod answer;
 mod apparent_rate;
 mod fault;
 mod fault_lines;
+pub mod laws;
 mod line;
 mod numbering;
 mod pieces;
