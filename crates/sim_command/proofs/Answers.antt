@@ -1,11 +1,10 @@
 -- The answer to an input.
 use Rattle.std.proofs.Common.{◌≡◌, ℕ, List, [], ◌∷◌, ◌++◌, map, Some, slice_get, Result, Ok, Err, refl, sym, ap, subst, ◌∙◌, inl, inr}
 use Rattle.std.specs.List.{AllZip, flat_map}
-use Rattle.std.proofs.lemmas.Option.{slice_get_within}
 use Rattle.pepa_model.specs.Expression.{Expression, WordTerm, LeafOf}
 use Rattle.pepa_model.specs.Derivation.{Transition}
 use Rattle.pepa_model.specs.PepaModel.{PepaModel}
-use Rattle.pepa_model.specs.Terms.{StandsFor, StepStandsFor, IsTermOf}
+use Rattle.pepa_model.specs.Terms.{StandsFor, StepStandsFor}
 use Rattle.pepa_model.specs.declared.term.Term.{Term}
 use Rattle.pepa_model.specs.declared.term.Term.TheVariants.{Leaf}
 use Rattle.pepa_model.specs.declared.term.Step.{Step}
@@ -47,10 +46,6 @@ pub listed : (m : PepaModel) (term : Term) (steps : List Step) (answered : Answe
 listed m term steps answered answers stands status out line =
     let (fine, (transitions, derived, stand)) = answers (first_state m.system) stands in
     inr record { fine = fine; transitions = transitions; derived = derived; status_is = status; out_is = out ∙ same_text m steps transitions stand; line_is = line }
-
--- what stands for a word term is a term of the model
-pub term_of_model : (m : PepaModel) (term : Term) (word : WordTerm) → StandsFor m term word → IsTermOf m term
-term_of_model m (Leaf number) word (e, at, is) = slice_get_within m.leaves number e at
 
 -- a model that was read has a constant for its system
 pub constant_system : (input : List ℕ) (m : PepaModel) → Reads input m → HasConstantSystem m

@@ -48,16 +48,16 @@ module _ (definitions : List Definition) where
   left_end e x y (Fault fault) is left o opens =
       let c = opens_choice definitions e x y is o opens in
       subst (λ (o : Opened). AnswersRates o (Err (Fault fault))) (sym c.whole)
-          (first_in_front HasFineRates HasRateFault fault (parts c.left ++ parts c.right) (OpenChoice c.left c.right ∷ [])
-              (first_in_front HasFineRates HasRateFault fault (parts c.left) (parts c.right) (left c.left c.opens_left)))
+      (first_in_front HasFineRates HasRateFault fault (parts c.left ++ parts c.right) (OpenChoice c.left c.right ∷ [])
+      (first_in_front HasFineRates HasRateFault fault (parts c.left) (parts c.right) (left c.left c.opens_left)))
   left_end e x y Memory is left o opens = tt
 
   pub right_end : (e x y : Expression) (rates : BTreeMap ℕ Rate) (end : RatesEnd) → e ≡ Chosen x y → Answers x (Ok rates) → Answers y (Err end) → Answers e (Err end)
   right_end e x y rates (Fault fault) is left right o opens =
       let c = opens_choice definitions e x y is o opens in
       subst (λ (o : Opened). AnswersRates o (Err (Fault fault))) (sym c.whole)
-          (first_in_front HasFineRates HasRateFault fault (parts c.left ++ parts c.right) (OpenChoice c.left c.right ∷ [])
-              (first_in_back HasFineRates HasRateFault fault (parts c.left) (parts c.right) (left c.left c.opens_left).0 (right c.right c.opens_right)))
+      (first_in_front HasFineRates HasRateFault fault (parts c.left ++ parts c.right) (OpenChoice c.left c.right ∷ [])
+      (first_in_back HasFineRates HasRateFault fault (parts c.left) (parts c.right) (left c.left c.opens_left).0 (right c.right c.opens_right)))
   right_end e x y rates Memory is left right o opens = tt
 
   same_rates : (p q : Opened) (l r : List (ℕ × Rate)) → AreRatesOf l p → AreRatesOf r q → (n : ℕ) → 0 < n → rates_of_choice l r n ≡ apparent_rate (OpenChoice p q) n
@@ -70,27 +70,28 @@ module _ (definitions : List Definition) where
   faulty_positive : (rate : ℕ → Apparent) (fault : RateFault) → rate 0 ≡ NoRate → (n : ℕ) → HasFault (rate n) fault → 0 < n
   faulty_positive rate fault none = zero_or_more_to (λ n. HasFault (rate n) fault) (λ h. subst (λ (x : Apparent). HasFault x fault) none h)
     where
-    zero_or_more_to : (P : ℕ → Type 0) → (P 0 → ⊥) → (n : ℕ) → P n → 0 < n
-    zero_or_more_to P z zero h = absurd (z h)
-    zero_or_more_to P z (suc n) h = omega arith
+      zero_or_more_to : (P : ℕ → Type 0) → (P 0 → ⊥) → (n : ℕ) → P n → 0 < n
+      zero_or_more_to P z zero h = absurd (z h)
+      zero_or_more_to P z (suc n) h = omega arith
 
   joined : (p q : Opened) (l r : BTreeMap ℕ Rate) (result : Result (BTreeMap ℕ Rate) RatesEnd) → AnswersRates p (Ok l) → AnswersRates q (Ok r) → AnswersChoice l.entries r.entries result → AnswersRates (OpenChoice p q) result
   joined p q l r (Ok rates) left right both =
       let each : (n : ℕ) → 0 < n → rate_in rates.entries n ≡ apparent_rate (OpenChoice p q) n =
-          λ n positive. both.1 n ∙ same_rates p q l.entries r.entries left.1 right.1 n positive in
-      (all_append HasFineRates (parts p ++ parts q) (OpenChoice p q ∷ []) (all_append HasFineRates (parts p) (parts q) left.0 right.0)
-          (λ n positive. subst IsFine (each n positive) (both.0 n), tt),
-      record { each = each; no_tau = both.1 0 ∙ no_tau l.entries r.entries left.1.no_tau right.1.no_tau })
+      λ n positive. both.1 n ∙ same_rates p q l.entries r.entries left.1 right.1 n positive in (
+        all_append HasFineRates (parts p ++ parts q) (OpenChoice p q ∷ []) (all_append HasFineRates (parts p) (parts q) left.0 right.0)
+            (λ n positive. subst IsFine (each n positive) (both.0 n), tt),
+        record { each = each; no_tau = both.1 0 ∙ no_tau l.entries r.entries left.1.no_tau right.1.no_tau },
+      )
   joined p q l r (Err (Fault fault)) left right both =
       let same = same_rates p q l.entries r.entries left.1 right.1 in
       let positive = faulty_positive (rates_of_choice l.entries r.entries) fault (no_tau l.entries r.entries left.1.no_tau right.1.no_tau) both.action both.faulty in
       first_at_last HasFineRates HasRateFault fault (parts p ++ parts q) (OpenChoice p q) (all_append HasFineRates (parts p) (parts q) left.0 right.0)
-          (record {
-            action = both.action;
-            positive = positive;
-            faulty = subst (λ (x : Apparent). HasFault x fault) (same both.action positive) both.faulty;
-            least = λ other above less. subst IsFine (same other above) (both.least other less);
-          })
+      (record {
+        action = both.action;
+        positive = positive;
+        faulty = subst (λ (x : Apparent). HasFault x fault) (same both.action positive) both.faulty;
+        least = λ other above less. subst IsFine (same other above) (both.least other less);
+      })
   joined p q l r (Err Memory) left right both = tt
 
   pub choice_answers : (e x y : Expression) (l r : BTreeMap ℕ Rate) (result : Result (BTreeMap ℕ Rate) RatesEnd) → e ≡ Chosen x y
@@ -98,7 +99,7 @@ module _ (definitions : List Definition) where
   choice_answers e x y l r result is left right both o opens =
       let c = opens_choice definitions e x y is o opens in
       subst (λ (o : Opened). AnswersRates o result) (sym c.whole)
-          (joined c.left c.right l r result (left c.left c.opens_left) (right c.right c.opens_right) both)
+      (joined c.left c.right l r result (left c.left c.opens_left) (right c.right c.opens_right) both)
 
   above : (c : ℕ) (p : Opened) (result : Result (BTreeMap ℕ Rate) RatesEnd) → AnswersRates p result → AnswersRates (OpenConst c p) result
   above c p (Ok rates) h =

@@ -20,9 +20,9 @@ written_is_listed : (input : List ℕ) (answer : Answered) (out : Seen) → IsAn
 written_is_listed input answer out (inl unread) wrote = absurd (no_front out answer.out unread.refused.out_is wrote)
 written_is_listed input answer out (inr read) wrote = of_model read.answer
   where
-  of_model : IsModelAnswer read.model answer → answer.status ≡ 0
-  of_model (inl stopped) = absurd (no_front out answer.out stopped.refused.out_is wrote)
-  of_model (inr listed) = listed.status_is
+    of_model : IsModelAnswer read.model answer → answer.status ≡ 0
+    of_model (inl stopped) = absurd (no_front out answer.out stopped.refused.out_is wrote)
+    of_model (inr listed) = listed.status_is
 
 pub ending : (words : List (List ℕ)) (source out : Seen) (input line : List ℕ) (status : ℕ) → IsCommand words Steps → length input ≤ 2 ^ 20
     → AreAllLeft source.before source.after input → IsInputEnding input out line status → IsEnding words source out line status

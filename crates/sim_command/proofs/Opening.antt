@@ -59,12 +59,12 @@ module _ (definitions : List Definition) where
   pub has_body : (e : Expression) (c depth : ℕ) → e ≡ Const c → CanOpen definitions e depth → c < length definitions
   has_body e c depth is h = of_opened h.opened h.opens
     where
-    of_opened : (o : Opened) → Opens definitions e o → c < length definitions
-    of_opened (OpenPrefix b s after) h = absurd cc
-    of_opened (OpenChoice p q) (x, y, e_is, opens_x, opens_y) = absurd cc
-    of_opened (OpenConst d p) (e_is, (other, defined, opens)) =
-        let same_constant : d ≡ c = cc in
-        subst (λ (n : ℕ). n < length definitions) same_constant (slice_get_within definitions d (Sequentially other) defined)
+      of_opened : (o : Opened) → Opens definitions e o → c < length definitions
+      of_opened (OpenPrefix b s after) h = absurd cc
+      of_opened (OpenChoice p q) (x, y, e_is, opens_x, opens_y) = absurd cc
+      of_opened (OpenConst d p) (e_is, (other, defined, opens)) =
+          let same_constant : d ≡ c = cc in
+          subst (λ (n : ℕ). n < length definitions) same_constant (slice_get_within definitions d (Sequentially other) defined)
 
   pub record ChoiceCanOpen (x y : Expression) (depth : ℕ) : Type 0 where
     pub positive : 1 ≤ depth

@@ -47,10 +47,10 @@ above_action a b h = ap is_eq (sym (nat_cmp_is a b Greater h))
 less_from : (a b : ℕ) → nat_cmp a b ≡ Less → a < b
 less_from a b h = of_cases (cases_order a b)
   where
-  of_cases : (a ≡ b) ⊎ ((a < b) ⊎ (b < a)) → a < b
-  of_cases (inl e) = let is : Equal ≡ nat_cmp a b = nat_cmp_is a b Equal e in absurd cc
-  of_cases (inr (inl lt)) = lt
-  of_cases (inr (inr gt)) = let is : Greater ≡ nat_cmp a b = nat_cmp_is a b Greater gt in absurd cc
+    of_cases : (a ≡ b) ⊎ ((a < b) ⊎ (b < a)) → a < b
+    of_cases (inl e) = let is : Equal ≡ nat_cmp a b = nat_cmp_is a b Equal e in absurd cc
+    of_cases (inr (inl lt)) = lt
+    of_cases (inr (inr gt)) = let is : Greater ≡ nat_cmp a b = nat_cmp_is a b Greater gt in absurd cc
 
 -- no entry for an action below all keys
 none_below : (action : ℕ) (rest : List (ℕ × Rate)) → AllByRecursion (λ k. action < k) (map (λ e. e.0) rest) → rate_in rest action ≡ NoRate
@@ -82,29 +82,29 @@ module _ (left right all : List (ℕ × Rate)) (action : ℕ) (rate : Rate) (res
     ascending = sorted_tail nat_cmp action (map (λ e. e.0) rest) h.ascending;
   }
     where
-    own_total : together (rate_in new action) (rate_in rest action) ≡ rates_of_choice left right action
-    own_total =
-        ap (λ (x : Apparent). together (rate_in new action) x) (none_behind action rest h.ascending)
-        ∙ together-NoRate (rate_in new action)
-        ∙ adds.here
-        ∙ ap (λ (x : Apparent). together (rate_in all action) x) (sym (at_own action rate rest (same_action action)))
-        ∙ h.total action
+      own_total : together (rate_in new action) (rate_in rest action) ≡ rates_of_choice left right action
+      own_total =
+          ap (λ (x : Apparent). together (rate_in new action) x) (none_behind action rest h.ascending)
+          ∙ together-NoRate (rate_in new action)
+          ∙ adds.here
+          ∙ ap (λ (x : Apparent). together (rate_in all action) x) (sym (at_own action rate rest (same_action action)))
+          ∙ h.total action
 
-    other_total : (a : ℕ) → a ≢ action → is_eq (nat_cmp a action) ≡ false → together (rate_in new a) (rate_in rest a) ≡ rates_of_choice left right a
-    other_total a apart differs =
-        ap (λ (x : Apparent). together x (rate_in rest a)) (adds.elsewhere a apart)
-        ∙ ap (λ (x : Apparent). together (rate_in all a) x) (sym (at_other a action rate rest differs))
-        ∙ h.total a
+      other_total : (a : ℕ) → a ≢ action → is_eq (nat_cmp a action) ≡ false → together (rate_in new a) (rate_in rest a) ≡ rates_of_choice left right a
+      other_total a apart differs =
+          ap (λ (x : Apparent). together x (rate_in rest a)) (adds.elsewhere a apart)
+          ∙ ap (λ (x : Apparent). together (rate_in all a) x) (sym (at_other a action rate rest differs))
+          ∙ h.total a
 
-    total : (a : ℕ) → (a ≡ action) ⊎ ((a < action) ⊎ (action < a)) → together (rate_in new a) (rate_in rest a) ≡ rates_of_choice left right a
-    total a (inl e) = subst (λ (n : ℕ). together (rate_in new n) (rate_in rest n) ≡ rates_of_choice left right n) (sym e) own_total
-    total a (inr (inl lt)) = other_total a (λ e. omega (arith, e)) (below_action a action lt)
-    total a (inr (inr gt)) = other_total a (λ e. omega (arith, e)) (above_action a action gt)
+      total : (a : ℕ) → (a ≡ action) ⊎ ((a < action) ⊎ (action < a)) → together (rate_in new a) (rate_in rest a) ≡ rates_of_choice left right a
+      total a (inl e) = subst (λ (n : ℕ). together (rate_in new n) (rate_in rest n) ≡ rates_of_choice left right n) (sym e) own_total
+      total a (inr (inl lt)) = other_total a (λ e. omega (arith, e)) (below_action a action lt)
+      total a (inr (inr gt)) = other_total a (λ e. omega (arith, e)) (above_action a action gt)
 
-    fine : (a : ℕ) → (a ≡ action) ⊎ ((a < action) ⊎ (action < a)) → IsFine (rate_in new a)
-    fine a (inl e) = subst (λ (n : ℕ). IsFine (rate_in new n)) (sym e) adds.fine
-    fine a (inr (inl lt)) = subst IsFine (sym (adds.elsewhere a (λ e. omega (arith, e)))) (h.fine a)
-    fine a (inr (inr gt)) = subst IsFine (sym (adds.elsewhere a (λ e. omega (arith, e)))) (h.fine a)
+      fine : (a : ℕ) → (a ≡ action) ⊎ ((a < action) ⊎ (action < a)) → IsFine (rate_in new a)
+      fine a (inl e) = subst (λ (n : ℕ). IsFine (rate_in new n)) (sym e) adds.fine
+      fine a (inr (inl lt)) = subst IsFine (sym (adds.elsewhere a (λ e. omega (arith, e)))) (h.fine a)
+      fine a (inr (inr gt)) = subst IsFine (sym (adds.elsewhere a (λ e. omega (arith, e)))) (h.fine a)
 
   -- an entry whose sum has a fault is the least one
   pub least_fault : (fault : RateFault) → LoopKeeps left right all ((action, rate) ∷ rest) → HasFault (together (rate_in all action) (Rated rate)) fault → IsLeastFault (rates_of_choice left right) fault
@@ -114,14 +114,14 @@ module _ (left right all : List (ℕ × Rate)) (action : ℕ) (rate : Rate) (res
     least = λ other lt. subst IsFine (lesser other lt) (h.fine other);
   }
     where
-    own : together (rate_in all action) (Rated rate) ≡ rates_of_choice left right action
-    own = ap (λ (x : Apparent). together (rate_in all action) x) (sym (at_own action rate rest (same_action action))) ∙ h.total action
+      own : together (rate_in all action) (Rated rate) ≡ rates_of_choice left right action
+      own = ap (λ (x : Apparent). together (rate_in all action) x) (sym (at_own action rate rest (same_action action))) ∙ h.total action
 
-    lesser : (other : ℕ) → other < action → rate_in all other ≡ rates_of_choice left right other
-    lesser other lt =
-        sym (together-NoRate (rate_in all other))
-        ∙ ap (λ (x : Apparent). together (rate_in all other) x) (sym (none_before other action rate rest lt h.ascending))
-        ∙ h.total other
+      lesser : (other : ℕ) → other < action → rate_in all other ≡ rates_of_choice left right other
+      lesser other lt =
+          sym (together-NoRate (rate_in all other))
+          ∙ ap (λ (x : Apparent). together (rate_in all other) x) (sym (none_before other action rate rest lt h.ascending))
+          ∙ h.total other
 
   -- the way out of the loop
   pub stops : (new : List (ℕ × Rate)) (end : RatesEnd) → LoopKeeps left right all ((action, rate) ∷ rest) → AnswersAddition all new action rate (Err end) → AnswersChoice left right (Err end)

@@ -67,7 +67,7 @@ module _ (m : PepaModel) (sound : IsModel m) (number : ℕ) (e : Expression) (at
       let first = answers o opens in
       let fine_before : AllByRecursion IsShort first.before = first_part IsShort first.before (first.at ∷ first.after) (subst (AllByRecursion IsShort) first.whole (short_parts o short)) in
       let verdict : IsVerdict m.bodies (LeafOf e) (OfRates fault) =
-          (o, opens, record { before = first.before; at = first.at; after = first.after; whole = first.whole; fine = both first.before first.fine fine_before; faulty = first.faulty }) in
+      (o, opens, record { before = first.before; at = first.at; after = first.after; whole = first.whole; fine = both first.before first.fine fine_before; faulty = first.faulty }) in
       subst (λ (r : StepsEnd). IsVerdictAnswer m.bodies (LeafOf e) (Err r)) (sym is) (subst (λ (f : TermFault). IsVerdict m.bodies (LeafOf e) f) (sym same) verdict)
   with_fault rates.Memory result answers is = subst (λ (r : StepsEnd). IsVerdictAnswer m.bodies (LeafOf e) (Err r)) (sym is) tt
 

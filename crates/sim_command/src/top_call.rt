@@ -42,14 +42,12 @@ pub fn pepaprobe<S: Source, K: Sink, E: Sink>(
     out: &mut K,
     err: &mut E,
 ) -> u8
-    ensures {
-        (line : List ℕ)
+    ensures { (line : List ℕ)
         × IsEnding (map string_bytes words.now)
-            (seen (S.left source.old) (S.left source.new) (S.faults source.old) (S.faults source.new))
-            (seen (K.written out.old) (K.written out.new) (K.faults out.old) (K.faults out.new))
-            line result
-        × IsTold (seen (E.written err.old) (E.written err.new) (E.faults err.old) (E.faults err.new)) line
-    }
+        (seen (S.left source.old) (S.left source.new) (S.faults source.old) (S.faults source.new))
+        (seen (K.written out.old) (K.written out.new) (K.faults out.old) (K.faults out.new))
+        line result
+        × IsTold (seen (E.written err.old) (E.written err.new) (E.faults err.old) (E.faults err.new)) line }
 {
     let Ending { status, line } = run(alloc, words, source, out);
     let _ = write_all(err, line.as_slice());
@@ -57,18 +55,11 @@ pub fn pepaprobe<S: Source, K: Sink, E: Sink>(
 }
 
 // All but the fault's line.
-fn run<S: Source, K: Sink>(
-    alloc: Global,
-    words: &[String],
-    source: &mut S,
-    out: &mut K,
-) -> Ending
-    ensures {
-        IsEnding (map string_bytes words.now)
-            (seen (S.left source.old) (S.left source.new) (S.faults source.old) (S.faults source.new))
-            (seen (K.written out.old) (K.written out.new) (K.faults out.old) (K.faults out.new))
-            result.line result.status
-    }
+fn run<S: Source, K: Sink>(alloc: Global, words: &[String], source: &mut S, out: &mut K) -> Ending
+    ensures { IsEnding (map string_bytes words.now)
+        (seen (S.left source.old) (S.left source.new) (S.faults source.old) (S.faults source.new))
+        (seen (K.written out.old) (K.written out.new) (K.faults out.old) (K.faults out.new))
+        result.line result.status }
 {
     match read_words(alloc, words) {
         Ok(Command::Steps) => run_steps(alloc, source, out),
@@ -79,13 +70,11 @@ fn run<S: Source, K: Sink>(
 
 // Reads the input and answers it.
 fn run_steps<S: Source, K: Sink>(alloc: Global, source: &mut S, out: &mut K) -> Ending
-    ensures {
-        (words : List (List ℕ)) → IsCommand words Command.Steps
+    ensures { (words : List (List ℕ)) → IsCommand words Command.Steps
         → IsEnding words
-            (seen (S.left source.old) (S.left source.new) (S.faults source.old) (S.faults source.new))
-            (seen (K.written out.old) (K.written out.new) (K.faults out.old) (K.faults out.new))
-            result.line result.status
-    }
+        (seen (S.left source.old) (S.left source.new) (S.faults source.old) (S.faults source.new))
+        (seen (K.written out.old) (K.written out.new) (K.faults out.old) (K.faults out.new))
+        result.line result.status }
 {
     match read_all(alloc, source, MOST_BYTES) {
         Ok(input) => answer_input(alloc, input.as_slice(), out),
@@ -98,11 +87,9 @@ fn run_steps<S: Source, K: Sink>(alloc: Global, source: &mut S, out: &mut K) -> 
 // Answers an input that was read.
 fn answer_input<K: Sink>(alloc: Global, input: &[u8], out: &mut K) -> Ending
     requires { length input.now ≤ 2 ^ 20 }
-    ensures {
-        IsInputEnding input.now
-            (seen (K.written out.old) (K.written out.new) (K.faults out.old) (K.faults out.new))
-            result.line result.status
-    }
+    ensures { IsInputEnding input.now
+        (seen (K.written out.old) (K.written out.new) (K.faults out.old) (K.faults out.new))
+        result.line result.status }
 {
     match answer_steps(alloc, input) {
         Ok(answered) => deliver(answered, out),
@@ -112,11 +99,9 @@ fn answer_input<K: Sink>(alloc: Global, input: &[u8], out: &mut K) -> Ending
 
 // Writes the bytes of an answer.
 fn deliver<K: Sink>(answered: Answered, out: &mut K) -> Ending
-    ensures {
-        IsDelivery answered
-            (seen (K.written out.old) (K.written out.new) (K.faults out.old) (K.faults out.new))
-            result.line result.status
-    }
+    ensures { IsDelivery answered
+        (seen (K.written out.old) (K.written out.new) (K.faults out.old) (K.faults out.new))
+        result.line result.status }
 {
     let Answered {
         status,

@@ -105,11 +105,9 @@ fn answers(rt: HostRuntime) -> Result<(), Fail> {
 
 #[test]
 fn words_that_give_no_command(rt: HostRuntime) -> Result<(), Fail> {
-    for words in [
-        [].as_slice(),
-        ["step"].as_slice(),
-        ["steps", "steps"].as_slice(),
-    ] {
+    let unknown = ["step"];
+    let more = ["steps", "steps"];
+    for words in [&[], unknown.as_slice(), more.as_slice()] {
         let (status, out, err) = call(rt.alloc(), words, b"P", &SOUND)?;
         assert_eq!(rt; (status, out.calls()), (2, 0));
         assert_eq!(rt; err.written(), b"usage\n".as_slice());

@@ -41,9 +41,9 @@ pub returns-in_err-right-in-Choice : goal.returns-in_err-right-in-Choice
 returns-in_err-right-in-Choice t c =
     let p = err_from_is_err_and c.from_residual-in_err-right-in-Choice.result c.from_residual-in_err-right-in-Choice.ensures.1 in
     rw (p.1, p.2)
-        (right_end _ _ _ _ c.in_ok-left-in-Choice.left _ (ap expression_of c.in-Choice.is)
-            (rw c.deref.ensures at c.in_ok-left-in-Choice.ensures)
-            (rw c.deref-in-Choice.ensures at c.in_err-right-in-Choice.ensures))
+    (right_end _ _ _ _ c.in_ok-left-in-Choice.left _ (ap expression_of c.in-Choice.is)
+    (rw c.deref.ensures at c.in_ok-left-in-Choice.ensures)
+    (rw c.deref-in-Choice.ensures at c.in_err-right-in-Choice.ensures))
 
 pub returns-in-Prefix : goal.returns-in-Prefix
 returns-in-Prefix t c = prefix_answers _ _ _ _ _ _ (ap expression_of c.in-Prefix.is) c.prefix_rates.ensures
@@ -61,9 +61,9 @@ choice_rates-requires-clause-right_fine t c =
 pub returns-in_ok-right-in-Choice : goal.returns-in_ok-right-in-Choice
 returns-in_ok-right-in-Choice t c =
     choice_answers _ _ _ _ c.in_ok-left-in-Choice.left c.in_ok-right-in-Choice.right _ (ap expression_of c.in-Choice.is)
-        (rw c.deref.ensures at c.in_ok-left-in-Choice.ensures)
-        (rw c.deref-in-Choice.ensures at c.in_ok-right-in-Choice.ensures)
-        c.choice_rates.ensures
+    (rw c.deref.ensures at c.in_ok-left-in-Choice.ensures)
+    (rw c.deref-in-Choice.ensures at c.in_ok-right-in-Choice.ensures)
+    c.choice_rates.ensures
 
 pub returns-in-Constant : goal.returns-in-Constant
 returns-in-Constant t c = const_answers _ _ _ _ _ (ap expression_of c.in-Constant.is) c.body.ensures c.component_rates-in-Constant.ensures

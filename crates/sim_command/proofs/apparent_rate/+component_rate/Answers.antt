@@ -45,9 +45,9 @@ pub returns-in_err-right-in-Choice : goal.returns-in_err-right-in-Choice
 returns-in_err-right-in-Choice t c =
     let p = err_from_is_err_and c.from_residual-in_err-right-in-Choice.result c.from_residual-in_err-right-in-Choice.ensures.1 in
     rw (p.1, p.2)
-        (right_fault _ _ _ _ _ _ _ (ap expression_of c.in-Choice.is)
-            (rw c.deref.ensures at c.in_ok-left-in-Choice.ensures)
-            (rw c.deref-in-Choice.ensures at c.in_err-right-in-Choice.ensures))
+    (right_fault _ _ _ _ _ _ _ (ap expression_of c.in-Choice.is)
+    (rw c.deref.ensures at c.in_ok-left-in-Choice.ensures)
+    (rw c.deref-in-Choice.ensures at c.in_err-right-in-Choice.ensures))
 
 own_rate : (b : Bool) (r : Rate) → (if b then Rated r else NoRate) ≡ apparent_of (then_some b r)
 own_rate true r = refl
@@ -56,14 +56,14 @@ own_rate false r = refl
 pub returns-in-Prefix : goal.returns-in-Prefix
 returns-in-Prefix t c =
     prefix_answers _ _ _ _ _ _ _ (ap expression_of c.in-Prefix.is) c.valid.ensures.in_range
-        (own_rate (c.in-Prefix.own == c.args.action) c.in-Prefix.rate ∙ ap apparent_of (sym c.then_some.ensures))
+    (own_rate (c.in-Prefix.own == c.args.action) c.in-Prefix.rate ∙ ap apparent_of (sym c.then_some.ensures))
 
 pub returns-in_ok-right-in-Choice : goal.returns-in_ok-right-in-Choice
 returns-in_ok-right-in-Choice t c =
     choice_answers _ _ _ _ _ _ _ _ (ap expression_of c.in-Choice.is)
-        (rw c.deref.ensures at c.in_ok-left-in-Choice.ensures)
-        (rw c.deref-in-Choice.ensures at c.in_ok-right-in-Choice.ensures)
-        c.rate_together.ensures
+    (rw c.deref.ensures at c.in_ok-left-in-Choice.ensures)
+    (rw c.deref-in-Choice.ensures at c.in_ok-right-in-Choice.ensures)
+    c.rate_together.ensures
 
 pub returns-in-Constant : goal.returns-in-Constant
 returns-in-Constant t c = const_answers _ _ _ _ _ _ (ap expression_of c.in-Constant.is) c.body.ensures c.component_rate-in-Constant.ensures

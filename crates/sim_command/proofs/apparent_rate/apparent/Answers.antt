@@ -8,5 +8,5 @@ component_rate-requires c = leaf_can_open _ c.is_sound.ensures _ _ c.leaf-2.ensu
 pub returns : goal.returns
 returns c = λ word stands.
     term_answers _ _ _ _ _ _ (leaf_can_open _ c.is_sound.ensures _ _ c.leaf-2.ensures)
-        (leaf_stands c.args.model.now _ _ _ _ c.leaf.ensures c.leaf-2.ensures stands)
-        c.component_rate.ensures
+    (leaf_stands c.args.model.now _ _ _ _ c.leaf.ensures c.leaf-2.ensures stands)
+    c.component_rate.ensures
