@@ -1,4 +1,4 @@
--- Apparent rates (Hillston 1996, section 3.3.3): the total rate at which a component performs an action type.
+-- Apparent rates (Hillston 1996, chapter 3): the total rate at which a component performs an action type.
 use Rattle.std.specs.Prelude.{◌≡◌, ◌==◌, ℕ, if◌then◌else◌, ⊤}
 use Rattle.pepa_rates.specs.declared.rate.Rate.{Rate}
 use Rattle.pepa_rates.specs.declared.rate.RateFault.{RateFault}

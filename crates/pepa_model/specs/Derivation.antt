@@ -1,4 +1,4 @@
--- The rules of PEPA's operational semantics (Hillston 1996, section 3.3.2, figure 3.1), the derivations that they allow,
+-- The rules of PEPA's operational semantics (Hillston 1996, chapter 3), the derivations that they allow,
 -- and the transition list of a term.
 use Rattle.std.specs.Prelude.{◌≡◌, ℕ, List, [], ◌∷◌, ◌⊎◌, ⊤}
 use Rattle.std.specs.List.{AllByRecursion, AllZip}

@@ -1,4 +1,4 @@
--- Sums of rates (Hillston, A Compositional Approach to Performance Modelling, 1996, section 3.3.2): two rates of one
+-- Sums of rates (Hillston, A Compositional Approach to Performance Modelling, 1996, chapter 3): two rates of one
 -- kind add up, and an active and a passive one have no sum.
 use Rattle.std.specs.Prelude.{◌≡◌, ◌+◌, ◌*◌, Result, Ok, Err}
 use Rattle.pepa_rates.specs.Fraction.{Fraction, reduced, InRange}

@@ -13,6 +13,9 @@ pub mod Verdicts
 pub mod Printable
 pub mod NumberingNames
 pub mod NumberingLists
-pub mod NumberingSteps
 pub mod NumberedModel
+pub mod NumberingSteps
 pub mod NumberedText
+pub mod Answers
+pub mod Endings
+pub mod OneAnswer

@@ -1,5 +1,5 @@
 -- What `steps` answers can be printed: its numbers are the model's, and it has no signals.
-use Rattle.std.proofs.Common.{◌≡◌, ℕ, ◌<◌, List, [], ◌∷◌, Some, Ok, slice_get, length, get_or, refl, sym, ap, subst, ◌∙◌}
+use Rattle.std.proofs.Common.{◌≡◌, ℕ, ◌<◌, List, [], ◌∷◌, Some, Ok, slice_get, length, get_or, refl, sym, subst, ◌∙◌}
 use Rattle.std.specs.List.{AllByRecursion, AllZip}
 use Rattle.std.proofs.lemmas.Option.{slice_get_within, slice_get-get_or}
 use Rattle.std.proofs.lemmas.List.Elements.{All-from_recursion}
@@ -18,7 +18,7 @@ use Rattle.sim_command.specs.StepsAnswers.{AnswersSteps}
 use Rattle.sim_command.specs.StepsText.{CanPrint, CanPrintStep}
 
 module _ (m : PepaModel) where
-  stands_is_term : (t : Term) (word : WordTerm) → StandsFor m t word → IsTermOf m t
+  pub stands_is_term : (t : Term) (word : WordTerm) → StandsFor m t word → IsTermOf m t
   stands_is_term (Leaf number) word (e, at, is) = slice_get_within m.leaves number e at
 
   step_can_print : (step : Step) (a : Activity) (t : Transition) → StepStandsFor m step t → StandsForTransition m.leaves a t → a.action < length m.actions → CanPrintStep m step

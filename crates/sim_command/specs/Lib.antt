@@ -9,3 +9,6 @@ pub mod FaultLine
 pub mod Words
 pub mod StepsText
 pub mod Numbering
+pub mod TransitionsText
+pub mod Answer
+pub mod TopCall

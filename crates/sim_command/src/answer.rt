@@ -8,7 +8,7 @@ use crate::fault::{Fault, FaultName, Place, Stop};
 use crate::fault_lines::fault_line;
 use crate::line::Line;
 use crate::numbering::number_text;
-use crate::small_text::{TextFault, read_text};
+use crate::small_text::{TextFault, one_text, read_text};
 use crate::transition_text::steps_text;
 use crate::transitions::{StepFault, StepsEnd, steps};
 use pepa_model::{Model, Sequential, Shape2, Term};
@@ -46,6 +46,7 @@ fn read_model(alloc: Global, input: &[u8]) -> Result<Model, TextFault>
     requires { length input.now ≤ 2 ^ 20 }
     ensures { ReadsModel input.now result }
 {
+    one_text();
     let text = read_text(alloc, input)?;
     number_text(alloc, &text)
 }
@@ -55,6 +56,7 @@ fn model_answer(alloc: Global, model: &Model) -> Result<Answered, AllocError>
     requires { HasConstantSystem model.now }
     ensures { IfOk result (IsModelAnswer model.now) }
 {
+    model.is_sound();
     let term = first_term(model);
     match steps(alloc, model, &term) {
         Ok(list) => Ok(Answered {

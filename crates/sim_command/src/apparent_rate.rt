@@ -8,7 +8,7 @@ ghost use Rattle.sim_command.specs.ApparentAnswers.{AnswersApparent, AnswersOpen
 use pepa_model::{MAX_HEIGHT, Model, Sequential, Term};
 use pepa_rates::{Rate, RateFault};
 
-/// The apparent rate of an action type (Hillston 1996, section 3.3.3): `None` where the term doesn't perform it.
+/// The apparent rate of an action type (Hillston 1996, chapter 3): `None` where the term doesn't perform it.
 ///
 /// The fault is that of the first part, in post-order, where the rate of this action isn't defined or isn't in range.
 pub fn apparent(model: &Model, term: &Term, action: u32) -> Result<Option<Rate>, RateFault>

@@ -1,4 +1,10 @@
 //! Texts of the small form: definitions of constants with numbers as rates, and a constant.
+//!
+//! ```text
+//! text   := line* Capital
+//! line   := Capital "=" prefix ("+" prefix)* ";"
+//! prefix := "(" small "," NUMBER ")" "." Capital
+//! ```
 
 ghost use Rattle.std.specs.Prelude.{◌≡◌, ◌≢◌, ℕ, ◌≤◌, List, [], ◌∷◌, ◌++◌, IfOk, MatchOption};
 ghost use Rattle.sim_command.specs.Pieces.{Piece, Capital, Number, equals, pieces_of};
@@ -166,6 +172,8 @@ fn system(text: &[u8]) -> Option<&[u8]>
 ///
 /// White space may stand between any two pieces. A name has at most 64 bytes, a number at most 30 digits and a value from
 /// 1 to 2^42 - 1, a line at most 2,048 pieces, and a text at most 1,024 lines.
+///
+/// `Unsupported` says that the bytes spell no such text, and `Memory` only that memory ran out.
 pub(crate) fn read_text(alloc: Global, input: &[u8]) -> Result<SmallText, TextFault>
     ensures { ReadsText input.now result }
 {

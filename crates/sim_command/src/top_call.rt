@@ -139,3 +139,6 @@ fn refused(status: u8, fault: &Fault) -> Ending
         line: fault_line(fault),
     }
 }
+
+#[cfg(test)]
+mod tests;

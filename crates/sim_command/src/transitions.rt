@@ -39,7 +39,7 @@ impl From<AllocError> for StepsEnd {
     }
 }
 
-/// The transitions of a term (Hillston 1996, section 3.3.2): one step for each derivation, in derivation order, with its
+/// The transitions of a term (Hillston 1996, chapter 3): one step for each derivation, in derivation order, with its
 /// exact rate.
 pub fn steps(alloc: Global, model: &Model, term: &Term) -> Result<StepList, StepsEnd>
     requires { IsTermOf model.now term.now }

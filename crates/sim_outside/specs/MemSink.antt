@@ -5,7 +5,7 @@ use Rattle.sim_outside.specs.Faults.{next_count}
 use Rattle.sim_outside.specs.declared.source.Failed.{Failed}
 
 -- the bytes written, how many more there is room for, the most that a write takes, the numbers of the calls that fail,
--- and how many calls were made and failed
+-- and how many calls were made and how many failed
 pub record SinkState : Type 0 where
   pub written : List ℕ
   pub room : ℕ

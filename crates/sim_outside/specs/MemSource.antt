@@ -4,7 +4,8 @@ use Rattle.std.specs.List.{list_any}
 use Rattle.sim_outside.specs.Faults.{next_count}
 use Rattle.sim_outside.specs.declared.source.Failed.{Failed}
 
--- the bytes left, the most that a read gives, the numbers of the calls that fail, and how many calls were made and failed
+-- the bytes left, the most that a read gives, the numbers of the calls that fail, and how many calls were made and
+-- how many failed
 pub record SourceState : Type 0 where
   pub left : List ℕ
   pub chunk : ℕ

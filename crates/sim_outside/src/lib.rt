@@ -1,6 +1,7 @@
 //! The outside world: sources of bytes, sinks for bytes, and reading and writing all of them.
 //!
-//! A source or a sink may tell contracts its bytes. Those in memory do; those of the operating system do not.
+//! A source or a sink may tell contracts its bytes. Those in memory do; those of the operating
+//! system do not.
 #![tactic(auto)]
 
 mod bytes;

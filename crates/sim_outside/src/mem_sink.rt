@@ -38,8 +38,8 @@ impl Model for MemSink {
 }
 
 impl MemSink {
-    /// An empty sink with room for `room` bytes. A write takes at most `chunk` bytes, and the calls whose numbers,
-    /// from 1, are in `failing` fail.
+    /// An empty sink with room for `room` bytes. A write takes at most `chunk` bytes, and the calls
+    /// whose numbers, from 1, are in `failing` fail.
     pub fn make(
         alloc: Global,
         room: usize,

@@ -36,8 +36,8 @@ impl Model for MemSource {
 }
 
 impl MemSource {
-    /// A source of these bytes. A read gives at most `chunk` of them, and the calls whose numbers, from 1, are in
-    /// `failing` fail.
+    /// A source of these bytes. A read gives at most `chunk` of them, and the calls whose numbers,
+    /// from 1, are in `failing` fail.
     pub fn make(
         alloc: Global,
         bytes: &[u8],

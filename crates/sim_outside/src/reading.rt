@@ -29,7 +29,8 @@ pub fn read_all<S: Source>(alloc: Global, source: &mut S, limit: usize) -> Resul
     requires { limit < 2 ^ 32 }
     ensures told { ReadsToEnd (S.left source.old) (S.left source.new) limit result }
     ensures len { IfOk result (λ bytes. length bytes ≤ limit) }
-    ensures fault { IsErrOf result ReadEnd.ReadFault → Rose (S.faults source.old) (S.faults source.new) }
+    ensures fault { IsErrOf result ReadEnd.ReadFault
+        → Rose (S.faults source.old) (S.faults source.new) }
     ensures memory { IsErrOf result ReadEnd.Memory → source.new ≡ source.old }
     ensures never_falls { S.faults source.old ≤ S.faults source.new }
 {

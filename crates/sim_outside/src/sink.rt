@@ -12,7 +12,7 @@ pub trait Sink {
     // How many calls have failed, up to 2^64 - 1.
     ghost faults: { Self → ℕ };
 
-    /// Takes bytes from the front of `piece` and answers how many: at least one, where there is one.
+    /// Takes bytes from the front of `piece` and answers how many: at least one, if there is one.
     fn write(&mut self, piece: &[u8]) -> Result<usize, Failed>
         ensures count { IfOk result (IsTaken (length piece.now)) }
         ensures bytes { Writes (written self.old) (written self.new) result piece.now }

@@ -14,7 +14,8 @@ pub trait Source {
     // How many calls have failed, up to 2^64 - 1.
     ghost faults: { Self → ℕ };
 
-    /// Puts the next bytes at the front of `buf` and answers how many: 0 for a `buf` that is not empty is the end.
+    /// Puts the next bytes at the front of `buf` and answers how many: 0 for a `buf` that is not
+    /// empty is the end.
     ///
     /// What stands in `buf` behind them is unspecified, and after `Failed` all of it.
     fn read(&mut self, buf: &mut [u8]) -> Result<usize, Failed>

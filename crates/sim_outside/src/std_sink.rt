@@ -1,4 +1,6 @@
-ghost use Rattle.std.specs.Prelude.{◌≡◌, ◌<◌, ◌↔◌, IsTrue, None, length};
+ghost use Rattle.std.specs.Prelude.{◌≡◌, ◌<◌, ◌≤◌, ◌↔◌, IsTrue, None, length, IfOk, OnErr, MatchResult};
+ghost use Rattle.sim_outside.specs.Faults.{Rose, next_count};
+ghost use Rattle.sim_outside.specs.Sink.{IsTaken, Writes};
 
 use crate::sink::Sink;
 use crate::source::Failed;
@@ -7,7 +9,8 @@ use std::marker::Model;
 
 /// A writer of the standard library, such as standard output, as a sink. It tells no bytes.
 ///
-/// Contracts see it as the count of its faults. An interrupted write is a fault: nothing is tried again.
+/// Contracts see it as the count of its faults. Each write is one call of the writer, and an
+/// interrupted one is a fault.
 #[derive(Drop)]
 pub struct StdSink<W> {
     writer: W,
@@ -44,7 +47,17 @@ impl<W: Write> Sink for StdSink<W> {
     ghost faults = { λ faults. faults };
 
     /// Each write is flushed, so that no byte it took stays in a buffer of the writer.
-    fn write(&mut self, piece: &[u8]) -> Result<usize, Failed> {
+    fn write(&mut self, piece: &[u8]) -> Result<usize, Failed>
+        ensures faults { MatchResult result
+            (λ _. self.new ≡ self.old)
+            (λ _. self.new ≡ next_count self.old) }
+
+        // What each sink ensures.
+        ensures count { IfOk result (IsTaken (length piece.now)) }
+        ensures bytes { Writes None None result piece.now }
+        ensures failed { OnErr result (Rose self.old self.new) }
+        ensures never_falls { self.old ≤ self.new }
+    {
         match self.writer.write(piece) {
             Ok(count) if is_taken(count, piece) && self.writer.flush().is_ok() => Ok(count),
             _ => {

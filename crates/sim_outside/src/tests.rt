@@ -26,7 +26,8 @@ fn copy_all<S: Source, K: Sink>(
 ) -> Result<Result<(), Failed>, ReadEnd>
     requires { limit < 2 ^ 32 }
     ensures copied { IfOk result (λ written. OnOk written (IfSome (S.left source.old)
-        (λ input. IfSome (K.written sink.old) (λ before. K.written sink.new ≡ Some (before ++ input))))) }
+        (λ input. IfSome (K.written sink.old)
+        (λ before. K.written sink.new ≡ Some (before ++ input))))) }
     ensures too_long { IsErrOf result ReadEnd.TooLong
         → IfSome (S.left source.old) (λ input. limit < length input) }
     ensures read_fault { IsErrOf result ReadEnd.ReadFault

@@ -1,4 +1,4 @@
-use Rattle.std.proofs.Common.{◌+◌, ◌/◌, ◌%◌, [], ◌∷◌, length, length-append, append_assoc, arith, ap, sym}
+use Rattle.std.proofs.Common.{◌+◌, ◌/◌, ◌%◌, [], ◌∷◌, length, length-append, append_assoc, arith, ap}
 use Rattle.std.specs.Fmt.{decimal}
 use Rattle.sim_command.proofs.LineLemmas.{digits_front, digits_more, digits_one}
 use Rattle.sim_command.proofs.line.Line.+push_digits.Goals as goal
