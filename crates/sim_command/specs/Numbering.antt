@@ -84,7 +84,8 @@ leaves_of count = map Const (range_with_len 0 count)
 
 -- ---- the model of a text
 
--- a text that has a model: each name of a constant is defined, and once only, and the text isn't too long
+-- a text that has a model: each constant is defined once, no other is named, and there are at most 1,024 action types
+-- beside `tau` and 65,535 prefixes
 pub record IsWellNamed (text : SmallText) : Type 0 where
   pub distinct : AreDistinct (constants_of text.lines)
   pub targets : AllByRecursion (λ p. Among p.target (constants_of text.lines)) (prefixes_of text.lines)
