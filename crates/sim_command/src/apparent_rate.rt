@@ -56,3 +56,6 @@ fn rate_together(left: Option<Rate>, right: Option<Rate>) -> Result<Option<Rate>
         (None, right) => Ok(right),
     }
 }
+
+#[cfg(test)]
+mod tests;
