@@ -19,3 +19,4 @@ pub mod NumberedText
 pub mod Answers
 pub mod Endings
 pub mod OneAnswer
+pub mod EitherOrder

@@ -57,7 +57,7 @@ fn prefix_rates(alloc: Global, action: u32, rate: &Rate) -> Result<BTreeMap<u32,
     Ok(rates)
 }
 
-// The rates of a choice, of those of its operands.
+// The rates of a choice, of those of its operands. Fewer entries go into more, since addition doesn't mind the order.
 fn choice_rates(
     left: BTreeMap<u32, Rate>,
     right: BTreeMap<u32, Rate>,
@@ -66,8 +66,24 @@ fn choice_rates(
     requires right_fine { AllFine right.entries }
     ensures { AnswersChoice left.entries right.entries result }
 {
-    let mut all = left;
-    for (action, rate) in &right {
+    if left.len() < right.len() {
+        add_rates(right, left)
+    } else {
+        add_rates(left, right)
+    }
+}
+
+// The first rates with the others added, entry by entry.
+fn add_rates(
+    first: BTreeMap<u32, Rate>,
+    others: BTreeMap<u32, Rate>,
+) -> Result<BTreeMap<u32, Rate>, RatesEnd>
+    requires first_fine { AllFine first.entries }
+    requires others_fine { AllFine others.entries }
+    ensures { AnswersChoice first.entries others.entries result }
+{
+    let mut all = first;
+    for (action, rate) in &others {
         add_rate(&mut all, *action, rate)?;
     }
     Ok(all)

@@ -1,19 +1,5 @@
-use Rattle.std.proofs.Common.{subst, ℕ, List}
-use Rattle.std.proofs.lemmas.Result.{err_from_is_err_and}
-use Rattle.pepa_rates.specs.declared.rate.Rate.{Rate}
-use Rattle.sim_command.proofs.RateMaps.{LoopKeeps, keeps, stops}
+use Rattle.sim_command.proofs.EitherOrder.{other_order}
 use Rattle.sim_command.proofs.action_rates.choice_rates.Goals as goal
 
-pub loop-action-preserved : goal.loop-action-preserved
-loop-action-preserved c =
-    keeps _ _ _ _ _ _ _
-    (subst (λ (rest : List (ℕ × Rate)). LoopKeeps c.args.left.entries c.args.right.entries c.loop-action.all.entries rest) c.in-Some.ensures.steps c.loop-action.invariant)
-    c.in_ok-add_rate.ensures
-
-pub returns-in_err-add_rate : goal.returns-in_err-add_rate
-returns-in_err-add_rate c =
-    let p = err_from_is_err_and c.from_residual.result c.from_residual.ensures.1 in
-    rw (p.1, p.2)
-    (stops _ _ _ _ _ _ c.add_rate.new.rates.entries _
-    (subst (λ (rest : List (ℕ × Rate)). LoopKeeps c.args.left.entries c.args.right.entries c.loop-action.all.entries rest) c.in-Some.ensures.steps c.loop-action.invariant)
-    c.in_err-add_rate.ensures)
+pub returns-then-len : goal.returns-then-len
+returns-then-len c = other_order c.args.left.entries c.args.right.entries c.add_rates.result c.add_rates.ensures
