@@ -1,6 +1,6 @@
 -- Runs of bytes of one kind, in front of a list.
-use Rattle.std.proofs.Common.{◌≡◌, ℕ, suc, ◌+◌, ◌<◌, ◌==◌, Bool, true, false, ◌||◌, List, [], ◌∷◌, ◌++◌, length, take, drop, refl, sym, ap, ◌∙◌, arith}
-use Rattle.std.specs.List.{list_all, prefix_len}
+use Rattle.std.proofs.Common.{◌≡◌, ℕ, suc, ◌+◌, ◌<◌, ◌≤◌, ◌==◌, Bool, true, false, ◌||◌, List, [], ◌∷◌, ◌++◌, length, take, drop, Some, None, refl, sym, ap, ◌∙◌, arith}
+use Rattle.std.specs.List.{list_all, prefix_len, slice_get}
 use Rattle.std.proofs.lemmas.Bool.Decides.{nat_tests}
 use Rattle.std.proofs.lemmas.List.{length-take-le}
 use Rattle.pepa_lexer.specs.Bytes.{is_letter, is_capital, is_word_byte, is_digit, begins}
@@ -90,3 +90,18 @@ name_run text n h len =
 -- the digits that a text begins with
 pub digits_are : (text digits rest : List ℕ) → IsRun is_digit text digits rest → begins is_digit text ≡ true → AreDigits digits
 digits_are text digits rest run h = (all_begins is_digit digits run.all (run_some is_digit text digits rest run h), run.all)
+
+-- what an empty list's length says, and another's
+pub none_left : (n : ℕ) → (n == 0) ≡ true → n ≡ 0
+none_left n h = same_byte n 0 h
+
+pub some_left : (n : ℕ) → (n == 0) ≡ false → 0 < n
+some_left n h = grind (arith, nat_tests)
+
+pub first_is : (text : List ℕ) (byte : ℕ) → Some byte ≡ slice_get text 0 → text ≡ byte ∷ drop 1 text
+first_is [] byte e = absurd cc
+first_is (first ∷ text) byte e = let same : first ≡ byte = cc in rw same refl
+
+pub first_none : (text : List ℕ) → None ≡ slice_get text 0 → text ≡ []
+first_none [] e = refl
+first_none (first ∷ text) e = absurd cc
