@@ -10,7 +10,7 @@ below_or_not k n = grind arith
 open_front : (text : List ℕ) (n : ℕ) → n ≤ length text → ((k : ℕ) → k + 1 < n + 1 → ¬ IsCloseAt text k) → IsOpen (take n text)
 open_front text n within before k close =
     elim (below_or_not (k + 1) n) [
-      inl lt ↦ before k (omega arith) (sym (get_or-take n text k 0 (omega arith)) ∙ close.0, sym (get_or-take n text (k + 1) 0 lt) ∙ close.1)
+      | inl lt ↦ before k (omega arith) (sym (get_or-take n text k 0 (omega arith)) ∙ close.0, sym (get_or-take n text (k + 1) 0 lt) ∙ close.1)
       | inr ge ↦ let short : length (take n text) ≤ k + 1 = omega (arith, length-take-le n text within) in let past = get_or_past (take n text) (k + 1) 0 short in let is = close.1 in absurd (omega arith)
     ]
 

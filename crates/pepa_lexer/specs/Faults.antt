@@ -25,7 +25,7 @@ abbrev pub IsBadFraction : ℕ → List ℕ → Type 0
 IsBadFraction count bytes =
     (begins is_digit bytes ≡ false)
     ⊎ ((digits rest : List ℕ) × (bytes ≡ digits ++ rest) × AreDigits digits × (begins is_digit rest ≡ false)
-      × ((30 < count + length digits) ⊎ (begins is_word_byte rest ≡ true)))
+    × ((30 < count + length digits) ⊎ (begins is_word_byte rest ≡ true)))
 
 -- behind all digits that a number begins with: they are too many, a letter or `_` follows, or a point and a bad fraction
 abbrev pub IsBadBehind : List ℕ → List ℕ → Type 0

@@ -133,7 +133,11 @@ fn name(text: &[u8], place: Place) -> Result<Scanned, LexFault>
     if len > LONGEST_NAME {
         return Err(LexFault::LongName(place));
     }
-    let kind = if begins_with_capital(text) { Kind::Capital } else { Kind::Small };
+    let kind = if begins_with_capital(text) {
+        Kind::Capital
+    } else {
+        Kind::Small
+    };
     let kind = Some(kind);
     Ok(Scanned { kind, len })
 }
@@ -149,16 +153,31 @@ fn number(text: &[u8], place: Place) -> Result<Scanned, LexFault>
     }
     let whole = value_behind(0, digits);
     if !begins_with(rest, b'.') {
-        let kind = Some(Kind::Number { digits: whole, scale: 0 });
-        return Ok(Scanned { kind, len: digits.len() });
+        let kind = Some(Kind::Number {
+            digits: whole,
+            scale: 0,
+        });
+        return Ok(Scanned {
+            kind,
+            len: digits.len(),
+        });
     }
     let (_, rest) = rest.split_at(1);
     let (behind, rest) = rest.split_at(digits_len(rest));
-    if behind.is_empty() || digits.len() + behind.len() > MOST_DIGITS || begins_with_word_byte(rest) {
+    if behind.is_empty()
+        || digits.len() + behind.len() > MOST_DIGITS
+        || begins_with_word_byte(rest)
+    {
         return Err(LexFault::BadNumber(place));
     }
-    let kind = Some(Kind::Number { digits: value_behind(whole, behind), scale: behind.len() as u32 });
-    Ok(Scanned { kind, len: digits.len() + 1 + behind.len() })
+    let kind = Some(Kind::Number {
+        digits: value_behind(whole, behind),
+        scale: behind.len() as u32,
+    });
+    Ok(Scanned {
+        kind,
+        len: digits.len() + 1 + behind.len(),
+    })
 }
 
 /// The comment or the sign `/` in front of a text.
@@ -169,12 +188,18 @@ fn slash(text: &[u8], place: Place) -> Result<Scanned, LexFault>
     let (_, behind) = text.split_at(1);
     if begins_with(behind, b'/') {
         let (_, body) = behind.split_at(1);
-        return Ok(Scanned { kind: None, len: 2 + line_len(body) });
+        return Ok(Scanned {
+            kind: None,
+            len: 2 + line_len(body),
+        });
     }
     if begins_with(behind, b'*') {
         let (_, body) = behind.split_at(1);
         return match block_len(body) {
-            Some(len) => Ok(Scanned { kind: None, len: len + 4 }),
+            Some(len) => Ok(Scanned {
+                kind: None,
+                len: len + 4,
+            }),
             None => Err(LexFault::OpenComment(place)),
         };
     }
@@ -200,7 +225,10 @@ pub(crate) fn lexeme(text: &[u8], place: Place) -> Result<Scanned, LexFault>
         return slash(text, place);
     }
     match sign_in_front(text) {
-        Some((sign, len)) => Ok(Scanned { kind: Some(Kind::Sign(sign)), len }),
+        Some((sign, len)) => Ok(Scanned {
+            kind: Some(Kind::Sign(sign)),
+            len,
+        }),
         None => Err(LexFault::BadByte(place)),
     }
 }

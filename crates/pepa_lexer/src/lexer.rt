@@ -43,13 +43,23 @@ pub fn tokens(alloc: Global, input: &[u8]) -> Result<Tokens, LexFault>
         let scanned = lexeme(rest, place)?;
         let to = from + scanned.len;
         if let Some(kind) = scanned.kind {
-            list.push(Token { kind, place, from, to })?;
+            list.push(Token {
+                kind,
+                place,
+                from,
+                to,
+            })?;
         }
         let (bytes, behind) = rest.split_at(scanned.len);
         place = place_behind(place, bytes);
         from = to;
         rest = behind;
     }
-    list.push(Token { kind: Kind::End, place, from, to: from })?;
+    list.push(Token {
+        kind: Kind::End,
+        place,
+        from,
+        to: from,
+    })?;
     Ok(list)
 }

@@ -15,6 +15,6 @@ overflow_add-value c =
 
 pub loop-digit-preserved : goal.loop-digit-preserved
 loop-digit-preserved c = record {
-    value = value_more c.args.digits.now c.args.start c.loop-digit.value c.loop-digit.digit-index c.from.result c.requires.digits c.loop-digit-test.true c.loop-digit.invariant.value c.from.ensures;
-    below = below_more c.args.digits.now c.args.start c.loop-digit.value c.loop-digit.digit-index c.from.result c.requires.digits c.loop-digit-test.true c.loop-digit.invariant.below c.from.ensures;
-  }
+  value = value_more c.args.digits.now c.args.start c.loop-digit.value c.loop-digit.digit-index c.from.result c.requires.digits c.loop-digit-test.true c.loop-digit.invariant.value c.from.ensures;
+  below = below_more c.args.digits.now c.args.start c.loop-digit.value c.loop-digit.digit-index c.from.result c.requires.digits c.loop-digit-test.true c.loop-digit.invariant.below c.from.ensures;
+}

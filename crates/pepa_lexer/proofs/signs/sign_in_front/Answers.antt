@@ -5,9 +5,9 @@ use Rattle.pepa_lexer.proofs.signs.sign_in_front.Goals as goal
 
 pub returns-in_err-sign : goal.returns-in_err-sign
 returns-in_err-sign c =
-    let w = c.in_default in
-    ?
+    let first = first_is c.args.text.now c.in_ok-first.field-0.now c.in_ok-first.ensures.value in
+    rw c.from_residual-in_err-sign.ensures (λ sign rest. no_sign sign c.args.text.now _ rest c.in_ok-first.field-0.now first (sym c.in_err-sign.ensures.value) c.in_default.ensures)
 
 pub returns : goal.returns
 returns c =
-    byte_longest c.args.text.now c.in_ok-sign.sign c.in_ok-first.field-0.now _ (first_is c.args.text.now c.in_ok-first.field-0.now c.in_ok-first.ensures.value) c.in_ok-sign.ensures.bytes c.requires ?
+    byte_longest c.args.text.now c.in_ok-sign.sign c.in_ok-first.field-0.now _ (first_is c.args.text.now c.in_ok-first.field-0.now c.in_ok-first.ensures.value) c.in_ok-sign.ensures.bytes c.requires c.in_default.ensures
