@@ -18,3 +18,6 @@ mod signs;
 
 pub use kinds::{Kind, LexFault, Place, Sign, Token, Tokens};
 pub use lexer::tokens;
+
+#[cfg(test)]
+mod tests;
