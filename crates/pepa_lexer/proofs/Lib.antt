@@ -4,3 +4,6 @@ pub mod Numbers
 pub mod SignLemmas
 pub mod Scanning
 pub mod Lexing
+pub mod Classes
+pub mod OneLexeme
+pub mod OneAnswer

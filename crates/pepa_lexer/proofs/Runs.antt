@@ -51,7 +51,7 @@ pub begins_either : (first second : ℕ → Bool) (bytes : List ℕ) → begins 
 begins_either first second [] h k = refl
 begins_either first second (byte ∷ bytes) h k = rw (h, k) refl
 
-same_byte : (byte code : ℕ) → (byte == code) ≡ true → byte ≡ code
+pub same_byte : (byte code : ℕ) → (byte == code) ≡ true → byte ≡ code
 same_byte byte code h = grind (arith, nat_tests)
 
 -- the byte that a text begins with

@@ -12,6 +12,7 @@
 #![tactic(auto)]
 
 mod kinds;
+pub mod laws;
 mod lexeme;
 mod lexer;
 mod signs;
