@@ -7,3 +7,4 @@ pub mod Lexing
 pub mod Classes
 pub mod OneLexeme
 pub mod OneAnswer
+pub mod TextsInOrder

@@ -1,12 +1,12 @@
 -- A text has one list of tokens, or one fault.
-use Rattle.std.proofs.Common.{◌≡◌, ℕ, zero, suc, ◌-◌, ◌<◌, List, [], ◌∷◌, ◌++◌, length, drop, refl, sym, ap, ◌∙◌, arith, length-drop}
+use Rattle.std.proofs.Common.{◌≡◌, ℕ, zero, suc, ◌<◌, List, [], ◌∷◌, ◌++◌, length, drop, refl, sym, ap, ◌∙◌, arith, length-drop}
 use Rattle.std.proofs.lemmas.List.{nil_from_length}
-use Rattle.pepa_lexer.specs.Lexemes.{Lexeme, spelled, Leads}
+use Rattle.pepa_lexer.specs.Lexemes.{Lexeme, Leads}
 use Rattle.pepa_lexer.specs.TokenLists.{place_of, tokens_along, end_of, IsTokens}
 use Rattle.pepa_lexer.specs.Faults.{Refuses, IsFaultOf}
 use Rattle.pepa_lexer.specs.declared.kinds.Token.{Token}
 use Rattle.pepa_lexer.specs.declared.kinds.LexFault.{LexFault}
-use Rattle.pepa_lexer.proofs.OneLexeme.{IsFirst, one_lexeme, Stops, end_stops, refused_stops, refused_some, one_refusal}
+use Rattle.pepa_lexer.proofs.OneLexeme.{one_lexeme, Stops, end_stops, refused_stops, refused_some, one_refusal}
 
 leads_one : (lexemes others : List Lexeme) (bytes rest left : List ℕ) → Leads lexemes bytes rest → Leads others bytes left → Stops rest → Stops left → (lexemes ≡ others) × (rest ≡ left)
 leads_one [] [] bytes rest left a b stops ends = (refl, sym a ∙ b)

@@ -1,17 +1,17 @@
 -- A text has one first lexeme, or one cause why it has none.
-use Rattle.std.proofs.Common.{◌≡◌, ℕ, suc, ◌+◌, ◌<◌, ◌≤◌, ◌==◌, ◌⊎◌, Bool, true, false, not, ◌&&◌, ◌||◌, List, [], ◌∷◌, ◌++◌, length, get_or, refl, sym, ap, subst, ◌∙◌, arith, inl, inr, append_assoc, length-append}
+use Rattle.std.proofs.Common.{◌≡◌, ℕ, suc, ◌+◌, ◌<◌, ◌≤◌, ◌==◌, Bool, true, false, not, ◌&&◌, ◌||◌, List, [], ◌∷◌, ◌++◌, length, refl, sym, ap, subst, ◌∙◌, arith, inl, inr, append_assoc}
 use Rattle.std.specs.List.{list_all}
-use Rattle.std.proofs.lemmas.List.{append_cancel_left, get_or_append_left, get_or_at}
+use Rattle.std.proofs.lemmas.List.{append_cancel_left}
 use Rattle.pepa_lexer.specs.Bytes.{is_digit, is_letter, is_word_byte, is_line_feed, begins}
 use Rattle.pepa_lexer.specs.Signs.{sign_bytes}
-use Rattle.pepa_lexer.specs.Lexemes.{Lexeme, Blank, LineComment, BlockComment, Word, Whole, Pointed, Mark, spelled, IsLexeme, EndsBefore, IsOpen, AreDigits}
+use Rattle.pepa_lexer.specs.Lexemes.{Lexeme, Blank, LineComment, BlockComment, Word, Whole, Pointed, Mark, spelled, IsLexeme, EndsBefore, IsOpen}
 use Rattle.pepa_lexer.specs.Faults.{BeginsNothing, BeginsBadNumber, BeginsLongName, BeginsOpenComment, Refuses}
 use Rattle.pepa_lexer.specs.declared.kinds.Place.{Place}
 use Rattle.pepa_lexer.specs.declared.kinds.LexFault.{LexFault}
 use Rattle.pepa_lexer.specs.declared.kinds.LexFault.TheVariants.{BadByte, BadNumber, LongName, OpenComment, Memory}
 use Rattle.pepa_lexer.specs.declared.kinds.Sign.{Sign}
 use Rattle.pepa_lexer.specs.declared.kinds.Sign.TheVariants.{Slash}
-use Rattle.pepa_lexer.proofs.Runs.{all_begins, begins_front, same_byte}
+use Rattle.pepa_lexer.proofs.Runs.{begins_front, same_byte}
 use Rattle.pepa_lexer.proofs.Classes.{class, first_sign, first_sign_is, class-sign, class-line, class-block, class-space, class-letter, class-digit, class-other, class-nil}
 
 pub record IsFirst (bytes : List ℕ) (lexeme : Lexeme) (rest : List ℕ) : Type 0 where

@@ -1,14 +1,13 @@
 -- What stands in front of a text, as a lexeme.
-use Rattle.std.proofs.Common.{◌≡◌, ℕ, ◌+◌, ◌<◌, ◌≤◌, ◌==◌, Bool, true, false, not, cond, List, [], ◌∷◌, ◌++◌, length, take, drop, Option, Some, None, refl, sym, ap, ◌∙◌, arith, inl, inr, append_assoc, length-append}
+use Rattle.std.proofs.Common.{◌≡◌, ℕ, ◌+◌, ◌<◌, ◌≤◌, ◌==◌, Bool, true, false, not, cond, List, [], ◌∷◌, ◌++◌, length, take, drop, Some, None, refl, sym, ap, ◌∙◌, arith, inl, inr, append_assoc, length-append}
 use Rattle.std.specs.List.{prefix_len}
 use Rattle.std.proofs.lemmas.List.{length-take-le}
 use Rattle.std.specs.Str.Parse.{digits_value_after}
 use Rattle.pepa_lexer.specs.Bytes.{is_space, is_digit, is_letter, is_capital, is_word_byte, is_line_feed, begins}
-use Rattle.pepa_lexer.specs.Signs.{sign_bytes, IsLongestSign}
-use Rattle.pepa_lexer.specs.Lexemes.{Lexeme, Blank, LineComment, BlockComment, Word, Whole, Pointed, Mark}
+use Rattle.pepa_lexer.specs.Signs.{IsLongestSign}
+use Rattle.pepa_lexer.specs.Lexemes.{Blank, LineComment, BlockComment, Word, Whole, Pointed, Mark}
 use Rattle.pepa_lexer.specs.Faults.{BeginsBadNumber, BeginsLongName}
 use Rattle.pepa_lexer.specs.Scans.{IsScanned, IsBlockBody}
-use Rattle.pepa_lexer.specs.declared.kinds.Kind.{Kind}
 use Rattle.pepa_lexer.specs.declared.kinds.Kind.TheVariants.{Small, Capital, Number, Sign}
 use Rattle.pepa_lexer.specs.declared.kinds.Sign.TheVariants.{Slash}
 use Rattle.pepa_lexer.specs.declared.kinds.Sign as S

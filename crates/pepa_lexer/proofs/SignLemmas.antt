@@ -1,5 +1,5 @@
 -- The longest sign in front of a text.
-use Rattle.std.proofs.Common.{◌≡◌, ◌≢◌, ℕ, ◌+◌, ◌<◌, ◌==◌, Bool, true, false, cond, List, [], ◌∷◌, ◌++◌, length, Option, Some, None, refl, sym, ap, ◌∙◌, arith}
+use Rattle.std.proofs.Common.{◌≡◌, ◌≢◌, ℕ, ◌==◌, Bool, true, false, cond, List, [], ◌∷◌, ◌++◌, length, Some, None, refl, sym, ap, ◌∙◌}
 use Rattle.pepa_lexer.specs.Bytes.{begins}
 use Rattle.pepa_lexer.specs.Signs.{sign_bytes, goes_on, sign_of_pair, sign_of_byte, IsLongestSign}
 use Rattle.pepa_lexer.specs.declared.kinds.Sign.{Sign}

@@ -1,5 +1,5 @@
 -- What a text is made of: white space, comments, names, numbers and signs, each as long as it can be.
-use Rattle.std.specs.Prelude.{◌≡◌, ℕ, ◌+◌, ◌<◌, ◌≤◌, Bool, true, false, not, ◌||◌, ◌==◌, List, [], ◌∷◌, ◌++◌, length, slice_index, IsTrue}
+use Rattle.std.specs.Prelude.{◌≡◌, ℕ, ◌+◌, ◌≤◌, true, false, not, ◌||◌, ◌==◌, List, [], ◌∷◌, ◌++◌, length, slice_index}
 use Rattle.std.specs.List.{list_all}
 use Rattle.pepa_lexer.specs.Bytes.{is_digit, is_letter, is_word_byte, is_space, is_line_feed, begins}
 use Rattle.pepa_lexer.specs.Signs.{sign_bytes, goes_on}

@@ -4,3 +4,4 @@ pub mod Lexemes
 pub mod TokenLists
 pub mod Faults
 pub mod Scans
+pub mod TokenTexts

@@ -1,5 +1,5 @@
 -- The tokens of a text: its names, numbers and signs, each with its place, and the end.
-use Rattle.std.specs.Prelude.{◌≡◌, ℕ, ◌+◌, Bool, not, if◌then◌else◌, List, [], ◌∷◌, ◌++◌, length, take, count_by, Option, Some, None}
+use Rattle.std.specs.Prelude.{◌≡◌, ℕ, ◌+◌, not, if◌then◌else◌, List, [], ◌∷◌, ◌++◌, length, take, count_by, Option, Some, None}
 use Rattle.std.specs.List.{suffix_len}
 use Rattle.std.specs.Str.Parse.{digits_value}
 use Rattle.pepa_lexer.specs.Bytes.{is_capital, is_line_feed, begins}

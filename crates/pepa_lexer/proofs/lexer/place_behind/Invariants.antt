@@ -1,6 +1,4 @@
-use Rattle.std.proofs.Common.{◌≡◌, ℕ, ◌+◌, ◌≤◌, List, ◌++◌, take, count_by, not}
-use Rattle.std.specs.List.{suffix_len}
-use Rattle.pepa_lexer.specs.Bytes.{is_line_feed}
+use Rattle.std.proofs.Common.{◌≡◌, ℕ, ◌+◌, ◌≤◌, List, ◌++◌, take}
 use Rattle.pepa_lexer.specs.TokenLists.{place_after}
 use Rattle.pepa_lexer.proofs.lexer.place_behind.Given as goal
 

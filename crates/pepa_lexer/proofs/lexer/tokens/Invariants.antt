@@ -1,4 +1,4 @@
-use Rattle.std.proofs.Common.{◌≡◌, ◌+◌, ◌≤◌, List, length, drop}
+use Rattle.std.proofs.Common.{◌≡◌, ◌≤◌, List, length, drop}
 use Rattle.pepa_lexer.specs.Lexemes.{Lexeme, Leads}
 use Rattle.pepa_lexer.specs.TokenLists.{place_of, tokens_along}
 use Rattle.pepa_lexer.proofs.lexer.tokens.Given as goal
