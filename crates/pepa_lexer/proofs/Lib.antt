@@ -1,0 +1,10 @@
+pub mod Runs
+pub mod Blocks
+pub mod Numbers
+pub mod SignLemmas
+pub mod Scanning
+pub mod Lexing
+pub mod Classes
+pub mod OneLexeme
+pub mod OneAnswer
+pub mod TextsInOrder
