@@ -17,12 +17,12 @@ else
 fi
 
 if command -v python3 >/dev/null 2>&1; then
-    python3 -c 'import sys; [compile(open(it).read(), it, "exec") for it in sys.argv[1:]]' bench/steps-scale || status=1
+    python3 -c 'import sys; [compile(open(it).read(), it, "exec") for it in sys.argv[1:]]' bench/steps-scale bench/lex-scale || status=1
 else
     echo "skipped: python3 isn't installed"
 fi
 
-for script in bin/pepaprobe .ci/run bench/steps-scale; do
+for script in bin/pepaprobe .ci/run bench/steps-scale bench/lex-scale; do
     [ -x "$script" ] || {
         echo "FAILED: $script can't be executed"
         status=1
