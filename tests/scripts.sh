@@ -5,7 +5,7 @@ set -u
 cd "$(dirname -- "$0")/.." || exit 1
 
 status=0
-scripts=(bin/pepaprobe .ci/run tests/*.sh tests/common.bash)
+scripts=(bin/pepaprobe .ci/run tests/*.sh tests/common.bash tests/more-edits/run)
 for script in "${scripts[@]}"; do
     bash -n "$script" || status=1
 done
@@ -22,7 +22,7 @@ else
     echo "skipped: python3 isn't installed"
 fi
 
-for script in bin/pepaprobe .ci/run bench/steps-scale bench/lex-scale; do
+for script in bin/pepaprobe .ci/run bench/steps-scale bench/lex-scale tests/more-edits/run; do
     [ -x "$script" ] || {
         echo "FAILED: $script can't be executed"
         status=1

@@ -1,7 +1,7 @@
 -- The answer to an input.
-use Rattle.std.proofs.Common.{◌≡◌, ℕ, List, [], ◌∷◌, ◌++◌, map, Some, slice_get, Result, Ok, Err, refl, sym, ap, subst, ◌∙◌, inl, inr}
-use Rattle.std.specs.List.{AllZip, flat_map}
-use Rattle.pepa_model.specs.Expression.{Expression, WordTerm, LeafOf}
+use Rattle.std.proofs.Common.{◌≡◌, ℕ, List, [], ◌∷◌, ◌++◌, Result, Ok, Err, refl, sym, ap, subst, ◌∙◌, inr}
+use Rattle.std.specs.List.{AllZip}
+use Rattle.pepa_model.specs.Expression.{WordTerm}
 use Rattle.pepa_model.specs.Derivation.{Transition}
 use Rattle.pepa_model.specs.PepaModel.{PepaModel}
 use Rattle.pepa_model.specs.Terms.{StandsFor, StepStandsFor}
@@ -13,8 +13,8 @@ use Rattle.sim_command.specs.declared.small_text.SmallText.{SmallText}
 use Rattle.sim_command.specs.declared.small_text.TextFault.{TextFault}
 use Rattle.sim_command.specs.declared.small_text.TextFault.TheVariants.{Unsupported, Memory}
 use Rattle.sim_command.specs.SmallText.{IsText}
-use Rattle.sim_command.specs.Numbering.{NumbersText, IsWellNamed, IsModelOf, model_of, number_in, constants_of}
-use Rattle.sim_command.specs.StepsText.{name_of, rate_text, step_text, steps_text_of, term_text, leaf_text}
+use Rattle.sim_command.specs.Numbering.{NumbersText, IsWellNamed, number_in, constants_of}
+use Rattle.sim_command.specs.StepsText.{step_text, steps_text_of, term_text, leaf_text}
 use Rattle.sim_command.specs.TransitionsText.{word_text, transition_text, transitions_text}
 use Rattle.sim_command.specs.StepsAnswers.{AnswersSteps}
 use Rattle.sim_command.specs.Answer.{Reads, ReadsModel, HasConstantSystem, IsModelAnswer, first_state}

@@ -1,14 +1,12 @@
 -- The apparent rate of one action, from a component's parts.
-use Rattle.std.proofs.Common.{◌≡◌, ◌==◌, ℕ, List, [], ◌∷◌, ◌++◌, Option, Some, None, Result, Ok, Err, refl, sym, ap, ◌∙◌, subst, if◌then◌else◌, Bool, true, false}
-use Rattle.std.specs.List.{AllByRecursion}
+use Rattle.std.proofs.Common.{◌≡◌, ◌==◌, ℕ, List, [], ◌∷◌, ◌++◌, Option, Result, Ok, Err, sym, ap, ◌∙◌, subst, if◌then◌else◌, Bool, true, false}
 use Rattle.pepa_rates.specs.declared.rate.Rate.{Rate}
 use Rattle.pepa_rates.specs.declared.rate.RateFault.{RateFault}
 use Rattle.pepa_rates.specs.Fraction.{InRange}
 use Rattle.pepa_rates.specs.Sum.{fraction_of}
 use Rattle.pepa_model.specs.Expression.{Expression, Const, Prefixed, Chosen, WordTerm, LeafOf, Definition, Defines}
-use Rattle.pepa_model.specs.Opened.{Opened, OpenPrefix, OpenChoice, OpenConst, Opens, parts}
+use Rattle.pepa_model.specs.Opened.{Opened, OpenChoice, OpenConst, Opens, parts}
 use Rattle.pepa_model.specs.Apparent.{Apparent, NoRate, Rated, apparent_rate, together, IsFine, HasFault}
-use Rattle.pepa_model.specs.Verdict.{IsFineFor, IsFaultFor, IsFirstFault}
 use Rattle.sim_command.specs.ApparentAnswers.{apparent_of, AnswersOpened, IsTogether, IsApparentAnswer, CanOpen}
 use Rattle.sim_command.proofs.Faults.{all_append, whole_from_parts, first_in_front, first_in_back, first_at_last}
 use Rattle.sim_command.proofs.Opening.{opens_prefix, opens_choice, opens_const}

@@ -1,15 +1,15 @@
 -- The apparent rates of a component, from those of its parts.
-use Rattle.std.proofs.Common.{◌≡◌, ◌≢◌, ◌==◌, ℕ, zero, suc, ◌<◌, Bool, true, false, ◌⊎◌, List, [], ◌∷◌, ◌++◌, Option, Result, Ok, Err, refl, sym, ap, subst, ◌∙◌, inl, inr, arith, if◌then◌else◌}
+use Rattle.std.proofs.Common.{◌≡◌, ℕ, zero, suc, ◌<◌, List, [], ◌∷◌, ◌++◌, Result, Ok, Err, sym, ap, subst, ◌∙◌, arith}
 use Rattle.std.specs.List.{AllByRecursion}
 use Rattle.std.specs.BTreeMap.{BTreeMap}
 use Rattle.pepa_rates.specs.declared.rate.Rate.{Rate}
 use Rattle.pepa_rates.specs.declared.rate.RateFault.{RateFault}
 use Rattle.pepa_model.specs.Expression.{Expression, Const, Prefixed, Chosen, Definition, Defines}
 use Rattle.pepa_model.specs.Opened.{Opened, OpenPrefix, OpenChoice, OpenConst, Opens, parts}
-use Rattle.pepa_model.specs.Apparent.{Apparent, NoRate, Rated, apparent_rate, together, IsFine, HasFault}
-use Rattle.pepa_model.specs.Verdict.{HasRateFault, IsFirstFault}
+use Rattle.pepa_model.specs.Apparent.{Apparent, NoRate, apparent_rate, together, IsFine, HasFault}
+use Rattle.pepa_model.specs.Verdict.{HasRateFault}
 use Rattle.sim_command.specs.ApparentAnswers.{CanOpen}
-use Rattle.sim_command.specs.ActionRates.{rate_in, AllFine, HasFineRates, AreRatesOf, AnswersRates, IsRatesOfPrefix, AnswersChoice, IsLeastFault, rates_of_choice}
+use Rattle.sim_command.specs.ActionRates.{rate_in, AllFine, HasFineRates, AreRatesOf, AnswersRates, IsRatesOfPrefix, AnswersChoice, rates_of_choice}
 use Rattle.sim_command.specs.declared.action_rates.RatesEnd.{RatesEnd}
 use Rattle.sim_command.specs.declared.action_rates.RatesEnd.TheVariants.{Fault, Memory}
 use Rattle.sim_command.proofs.Faults.{all_append, whole_from_parts, first_in_front, first_in_back, first_at_last}

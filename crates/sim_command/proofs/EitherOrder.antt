@@ -1,11 +1,10 @@
 -- The rates of a choice don't mind the order of its operands.
-use Rattle.std.proofs.Common.{◌≡◌, ℕ, ◌<◌, List, Result, Ok, Err, refl, ap, subst, ◌∙◌}
+use Rattle.std.proofs.Common.{◌≡◌, ℕ, List, Result, Ok, Err, refl, ap, subst, ◌∙◌}
 use Rattle.std.specs.BTreeMap.{BTreeMap}
 use Rattle.pepa_rates.specs.declared.rate.Rate.{Rate}
 use Rattle.pepa_rates.specs.declared.rate.Rate.TheVariants.{Active, Passive}
-use Rattle.pepa_rates.specs.Sum.{sum_of, Adds}
 use Rattle.pepa_rates.proofs.Sums.{sum_of-comm}
-use Rattle.pepa_model.specs.Apparent.{Apparent, NoRate, Rated, Undefined, together, apparent_of_sum, IsFine, HasFault}
+use Rattle.pepa_model.specs.Apparent.{Apparent, NoRate, Rated, Undefined, together, IsFine, HasFault}
 use Rattle.sim_command.specs.declared.action_rates.RatesEnd.{RatesEnd}
 use Rattle.sim_command.specs.declared.action_rates.RatesEnd.TheVariants.{Fault, Memory}
 use Rattle.sim_command.specs.ActionRates.{rate_in, AnswersChoice, rates_of_choice}

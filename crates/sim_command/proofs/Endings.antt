@@ -1,11 +1,11 @@
 -- How a call ends, from how its input was read and its answer delivered.
-use Rattle.std.proofs.Common.{◌≡◌, ℕ, ◌<◌, ◌≤◌, ◌^◌, List, [], length, Option, None, Some, Result, Ok, Err, ◌⊎◌, inl, inr, subst, ap, arith}
+use Rattle.std.proofs.Common.{◌≡◌, ℕ, ◌≤◌, ◌^◌, List, [], length, Option, None, Some, Ok, inl, inr, ap, arith}
 use Rattle.sim_outside.specs.ReadAll.{ReadsToEnd}
 use Rattle.sim_command.specs.declared.answer.Answered.{Answered}
 use Rattle.sim_command.specs.declared.words.Command.TheVariants.{Steps}
 use Rattle.sim_command.specs.Words.{IsCommand}
-use Rattle.sim_command.specs.Answer.{IsAnswer, IsUnread, IsRead, IsModelAnswer}
-use Rattle.sim_command.specs.TopCall.{Seen, AreAllLeft, WroteFront, IsAnswered, IsDelivery, IsInputEnding, IsEnding}
+use Rattle.sim_command.specs.Answer.{IsAnswer, IsModelAnswer}
+use Rattle.sim_command.specs.TopCall.{Seen, AreAllLeft, WroteFront, IsAnswered, IsInputEnding, IsEnding}
 
 pub all_left : (before after : Option (List ℕ)) (limit : ℕ) (bytes : List ℕ) → ReadsToEnd before after limit (Ok bytes) → AreAllLeft before after bytes
 all_left None after limit bytes h = tt
@@ -26,7 +26,8 @@ written_is_listed input answer out (inr read) wrote = of_model read.answer
 
 pub ending : (words : List (List ℕ)) (source out : Seen) (input line : List ℕ) (status : ℕ) → IsCommand words Steps → length input ≤ 2 ^ 20
     → AreAllLeft source.before source.after input → IsInputEnding input out line status → IsEnding words source out line status
-ending words source out input line status command few read (inl memory) = inr (inl memory)
+ending words source out input line status command few read (inl memory) =
+    inr (inl (record { ended = memory; source_is = inr (record { command = command; input = input; few = few; read = read }) }))
 ending words source out input line status command few read (inr (answer, is, inl delivered)) =
     let answered : IsAnswered words source answer = record { command = command; input = input; few = few; read = read; is = is } in
     inr (inr (inr (inr (inl (record { answer = answer; answered = answered; status_is = delivered.0; wrote = delivered.1; line_is = delivered.2 })))))

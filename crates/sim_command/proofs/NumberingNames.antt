@@ -199,12 +199,13 @@ stands_twice name (x ∷ names) more (inr h) distinct = stands_twice name names 
 
 -- ---- what putting a name behind the others does
 
-not_not : (b : Bool) → b ≡ not (not b)
-not_not true = refl
-not_not false = refl
+pub name_added : {V : Type 0} (before after : List (List ℕ × V)) (key name : List ℕ) (v : V) → key ≡ name → after ≡ insert_entry bytes_eq before key v → is_some (lookup (bytes_eq name) before) ≡ false → (keys_of after ≡ with_name (keys_of before) name) × (true ≡ not (list_any (bytes_eq name) (keys_of before)))
+name_added before after key name v same inserted absent =
+    let found : list_any (bytes_eq name) (keys_of before) ≡ false = sym (is_some-lookup (bytes_eq name) before) ∙ absent in
+    (ap keys_of inserted ∙ keys-insert before key v ∙ ap (with_name (keys_of before)) same, sym (ap not found))
 
-pub name_added : {V : Type 0} (before after : List (List ℕ × V)) (key name : List ℕ) (v : V) (old : Option V) (new : Bool) → key ≡ name → after ≡ insert_entry bytes_eq before key v → old ≡ lookup (bytes_eq key) before → is_some old ≡ not new → (keys_of after ≡ with_name (keys_of before) name) × (new ≡ not (list_any (bytes_eq name) (keys_of before)))
-name_added before after key name v old new same inserted looked is =
-    let P : List ℕ → Type 0 = λ n. (keys_of after ≡ with_name (keys_of before) n) × (new ≡ not (list_any (bytes_eq n) (keys_of before))) in
-    let found : list_any (bytes_eq key) (keys_of before) ≡ not new = sym (is_some-lookup (bytes_eq key) before) ∙ sym (ap is_some looked) ∙ is in
-    subst P same (ap keys_of inserted ∙ keys-insert before key v, not_not new ∙ sym (ap not found))
+pub name_there : {V : Type 0} (entries : List (List ℕ × V)) (name : List ℕ) → is_some (lookup (bytes_eq name) entries) ≡ true → (keys_of entries ≡ with_name (keys_of entries) name) × (false ≡ not (list_any (bytes_eq name) (keys_of entries)))
+name_there entries name there =
+    let names = keys_of entries in
+    let found : list_any (bytes_eq name) names ≡ true = sym (is_some-lookup (bytes_eq name) entries) ∙ there in
+    (sym (ap (λ (b : Bool). if b then names else names ++ name ∷ []) found), sym (ap not found))

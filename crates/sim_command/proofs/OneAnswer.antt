@@ -1,20 +1,16 @@
 -- An input has one model and one answer.
-use Rattle.std.proofs.Common.{◌≡◌, ℕ, List, [], ◌⊎◌, inl, inr, refl, sym, ap, subst, ◌∙◌}
-use Rattle.pepa_rates.specs.declared.rate.RateFault.TheVariants.{Mixed, Overflow}
-use Rattle.pepa_model.specs.Verdict.{TermFault, OfRates, OfLength, IsWithoutFault, IsVerdict}
-use Rattle.pepa_model.specs.Derivation.{Transition, IsTransitionList}
+use Rattle.std.proofs.Common.{◌≡◌, ℕ, List, inl, inr, refl, sym, ap, subst, ◌∙◌}
 use Rattle.pepa_model.specs.PepaModel.{PepaModel}
 use Rattle.pepa_model.proofs.OneList.{one_list, one_verdict, verdict_or_none}
 use Rattle.sim_command.specs.declared.answer.Answered.{Answered}
 use Rattle.sim_command.specs.declared.fault.Fault.{Fault}
 use Rattle.sim_command.specs.declared.fault.Fault.TheVariants as faults
-use Rattle.sim_command.specs.declared.small_text.SmallText.{SmallText}
 use Rattle.sim_command.specs.declared.transitions.StepFault.{StepFault}
 use Rattle.sim_command.specs.declared.transitions.StepFault.TheVariants as named
 use Rattle.sim_command.specs.StepsAnswers.{named_fault}
 use Rattle.sim_command.specs.Numbering.{model_of}
 use Rattle.sim_command.specs.TransitionsText.{transitions_text}
-use Rattle.sim_command.specs.Answer.{Reads, IsRefusal, IsStopped, IsListed, IsModelAnswer, IsUnread, IsRead, IsAnswer, first_state, stop_of, unsupported}
+use Rattle.sim_command.specs.Answer.{Reads, IsRefusal, IsStopped, IsListed, IsModelAnswer, IsAnswer, first_state, stop_of, unsupported}
 use Rattle.sim_command.proofs.SmallReadingLemmas.{same_text}
 
 pub same_model : (input : List ℕ) (x y : PepaModel) → Reads input x → Reads input y → x ≡ y

@@ -3,7 +3,7 @@ use Rattle.std.proofs.Common.{◌≡◌, ℕ, ◌<◌, List, [], ◌∷◌, Some
 use Rattle.std.specs.List.{AllByRecursion, AllZip}
 use Rattle.std.proofs.lemmas.Option.{slice_get_within, slice_get-get_or}
 use Rattle.std.proofs.lemmas.List.Elements.{All-from_recursion}
-use Rattle.pepa_model.specs.Expression.{Expression, Const, WordTerm, LeafOf}
+use Rattle.pepa_model.specs.Expression.{Const, WordTerm, LeafOf}
 use Rattle.pepa_model.specs.Derivation.{Transition}
 use Rattle.pepa_model.specs.Opened.{moves}
 use Rattle.pepa_model.specs.PepaModel.{PepaModel, IsModel, StandsForTransition}

@@ -1,23 +1,21 @@
 -- The verdict on a leaf, and its steps.
-use Rattle.std.proofs.Common.{◌≡◌, ℕ, suc, ◌+◌, ◌<◌, ◌≤◌, List, [], ◌∷◌, ◌++◌, map, length, slice_get, Some, Result, Ok, Err, refl, sym, ap, subst, ◌∙◌, arith, length-append}
+use Rattle.std.proofs.Common.{◌≡◌, ℕ, suc, ◌≤◌, List, [], ◌∷◌, ◌++◌, map, length, slice_get, Some, Result, Ok, Err, refl, sym, ap, subst, arith, length-append}
 use Rattle.std.specs.List.{AllByRecursion, AllZip}
 use Rattle.std.specs.BTreeMap.{BTreeMap}
 use Rattle.pepa_rates.specs.declared.rate.Rate.{Rate}
-use Rattle.pepa_model.specs.Expression.{Expression, WordTerm, LeafOf, Definition}
+use Rattle.pepa_model.specs.Expression.{Expression, WordTerm, LeafOf}
 use Rattle.pepa_model.specs.Derivation.{Transition}
 use Rattle.pepa_model.specs.Opened.{Opened, OpenPrefix, OpenChoice, OpenConst, Opens, parts, moves}
-use Rattle.pepa_model.specs.Verdict.{IsFirstFault, IsFinePart, HasRateFault, HasPartFault, OfRates, TermFault, IsWithoutFault, IsVerdict}
+use Rattle.pepa_model.specs.Verdict.{IsFinePart, OfRates, TermFault, IsWithoutFault, IsVerdict}
 use Rattle.pepa_model.specs.PepaModel.{PepaModel, IsModel, StandsForTransition, AreTransitionsOf}
-use Rattle.pepa_model.specs.Terms.{StandsFor, StepStandsFor}
+use Rattle.pepa_model.specs.Terms.{StepStandsFor}
 use Rattle.pepa_model.specs.declared.term.Activity.{Activity}
 use Rattle.pepa_model.specs.declared.term.Step.{Step}
-use Rattle.pepa_model.specs.declared.term.Term.{Term}
 use Rattle.sim_command.specs.ActionRates.{HasFineRates, AnswersRates}
-use Rattle.sim_command.specs.StepsAnswers.{IsVerdictAnswer, IsSameFault, IsStepsAnswer, AreSteps, named_fault, step_of}
+use Rattle.sim_command.specs.StepsAnswers.{IsVerdictAnswer, IsSameFault, IsStepsAnswer, AreSteps, step_of}
 use Rattle.sim_command.specs.declared.action_rates.RatesEnd.{RatesEnd}
 use Rattle.sim_command.specs.declared.action_rates.RatesEnd.TheVariants as rates
 use Rattle.sim_command.specs.declared.transitions.StepsEnd.{StepsEnd}
-use Rattle.sim_command.specs.declared.transitions.StepsEnd.TheVariants.{Fault, Memory}
 use Rattle.sim_command.proofs.Faults.{all_append}
 
 abbrev IsShort : Opened → Type 0

@@ -48,11 +48,23 @@ pub record EndsInUsage (words : List (List ℕ)) (source out : Seen) (line : Lis
   pub out_stays : IsUntouched out
   pub line_is : line ≡ fault_text faults.Usage
 
--- status 1: the memory ran out
-pub record EndsInMemory (out : Seen) (line : List ℕ) (status : ℕ) : Type 0 where
+-- the words ask for the input, and it was read to its end
+pub record IsReadThrough (words : List (List ℕ)) (source : Seen) : Type 0 where
+  pub command : IsCommand words Steps
+  pub input : List ℕ
+  pub few : length input ≤ 2 ^ 20
+  pub read : AreAllLeft source.before source.after input
+
+-- the memory ran out, and nothing is written
+pub record IsOutOfMemory (out : Seen) (line : List ℕ) (status : ℕ) : Type 0 where
   pub status_is : status ≡ 1
   pub out_stays : IsUntouched out
   pub line_is : line ≡ fault_text faults.Memory
+
+-- status 1: the memory ran out, before the first read or once the input was read
+pub record EndsInMemory (words : List (List ℕ)) (source out : Seen) (line : List ℕ) (status : ℕ) : Type 0 where
+  pub ended : IsOutOfMemory out line status
+  pub source_is : IsUntouched source ⊎ IsReadThrough words source
 
 -- status 4: a read failed
 pub record EndsInReadFault (words : List (List ℕ)) (source out : Seen) (line : List ℕ) (status : ℕ) : Type 0 where
@@ -100,7 +112,7 @@ pub record EndsInWriteFault (words : List (List ℕ)) (source out : Seen) (line 
 abbrev pub IsEnding : List (List ℕ) → Seen → Seen → List ℕ → ℕ → Type 0
 IsEnding words source out line status =
     EndsInUsage words source out line status
-    ⊎ (EndsInMemory out line status
+    ⊎ (EndsInMemory words source out line status
     ⊎ (EndsInReadFault words source out line status
     ⊎ (EndsTooLong words source out line status
     ⊎ (EndsInAnswer words source out line status ⊎ EndsInWriteFault words source out line status))))
@@ -121,4 +133,4 @@ IsDelivery answer out line status =
 -- the input is answered, and the answer delivered, or the memory ran out
 abbrev pub IsInputEnding : List ℕ → Seen → List ℕ → ℕ → Type 0
 IsInputEnding input out line status =
-    EndsInMemory out line status ⊎ ((answer : Answered) × IsAnswer input answer × IsDelivery answer out line status)
+    IsOutOfMemory out line status ⊎ ((answer : Answered) × IsAnswer input answer × IsDelivery answer out line status)

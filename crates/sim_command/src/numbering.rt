@@ -29,8 +29,11 @@ const MOST_PREFIXES: usize = 65_535;
 fn add_name(alloc: Global, names: &mut IndexMap<Name, ()>, name: &Name) -> Result<bool, AllocError>
     ensures { IfOk result (λ added. (keys names.new ≡ with_name (keys names.old) name.now) × (added ≡ not (list_any (bytes_eq name.now) (keys names.old)))) }
 {
-    let old = names.insert(name.copy(alloc)?, ())?;
-    Ok(old.is_none())
+    if names.contains_key(name) {
+        return Ok(false);
+    }
+    names.insert(name.copy(alloc)?, ())?;
+    Ok(true)
 }
 
 /// The names of the constants that the lines define, unless one of them is defined twice.

@@ -1,8 +1,3 @@
-use Rattle.std.proofs.Common.{◌≡◌, ℕ, map}
-use Rattle.std.specs.List.Sorted.{IsStrictlySortedBy}
-use Rattle.std.specs.Ordering.{nat_cmp}
-use Rattle.pepa_model.specs.Apparent.{together}
-use Rattle.sim_command.specs.ActionRates.{AllFine, rate_in, rates_of_choice}
 use Rattle.sim_command.proofs.RateMaps.{LoopKeeps}
 use Rattle.sim_command.proofs.action_rates.add_rates.Given as goal
 

@@ -1,5 +1,3 @@
-use Rattle.std.proofs.Common.{ℕ, ◌≤◌, ◌^◌, List, length, subst, sym}
-use Rattle.sim_command.specs.TopCall.{seen, IsInputEnding}
 use Rattle.sim_command.proofs.Endings.{all_left, ending}
 use Rattle.sim_command.proofs.top_call.run_steps.Goals as goal
 
