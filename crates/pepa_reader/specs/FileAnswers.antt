@@ -1,0 +1,108 @@
+-- What reading answers: the tree of a file, or the first token that can't follow.
+use Rattle.std.specs.Prelude.{◌≡◌, ℕ, ◌+◌, ◌<◌, ◌≤◌, List, [], ◌∷◌, ◌++◌, length, take, drop, slice_get, Result, Ok, Err, Some}
+use Rattle.std.specs.List.{AllByRecursion}
+use Rattle.pepa_lexer.specs.declared.kinds.Token.{Token}
+use Rattle.pepa_lexer.specs.declared.kinds.Place.{Place}
+use Rattle.pepa_lexer.specs.declared.kinds.Sign.TheVariants.{Equals, Star, Less, OpeningBracket}
+use Rattle.pepa_reader.specs.declared.terminal.Terminal.{Terminal}
+use Rattle.pepa_reader.specs.declared.terminal.Terminal.TheVariants.{Probe, Mark}
+use Rattle.pepa_reader.specs.declared.trees.FileTree.{FileTree}
+use Rattle.pepa_reader.specs.declared.fault.FileFault.{FileFault}
+use Rattle.pepa_reader.specs.declared.fault.FileFault.TheVariants.{Expected, TooDeep, Array, Wildcard, Unsupported, Memory}
+use Rattle.pepa_reader.specs.Terminals.{terminals}
+use Rattle.pepa_reader.specs.Grammar.{File, Line, Item, System, line_spelled, item_spelled, lines_spelled, file_spelled}
+use Rattle.pepa_reader.specs.Trees.{file_tree, file_node_of}
+
+-- how many tokens an item has at most
+abbrev pub most_tokens : ℕ
+most_tokens = 2048
+
+-- the terminals are those of some file
+abbrev pub IsFile : List Terminal → Type 0
+IsFile terminals = (file : File) × (terminals ≡ file_spelled file)
+
+-- they can be continued to a file
+abbrev pub CanGoOn : List Terminal → Type 0
+CanGoOn front = (more : List Terminal) × IsFile (front ++ more)
+
+-- the terminal at an index
+abbrev pub StandsAt : List Terminal → ℕ → Terminal → Type 0
+StandsAt terminals i terminal = slice_get terminals i ≡ Some terminal
+
+-- the first terminal that can't follow: what stands before it can be continued to a file, and with it nothing can
+pub record CantFollow (terminals : List Terminal) (i : ℕ) : Type 0 where
+  pub within : i < length terminals
+  pub before : CanGoOn (take i terminals)
+  pub behind : ¬ CanGoOn (take (i + 1) terminals)
+
+-- lines that are short enough
+abbrev pub AreShort : List Line → Type 0
+AreShort lines = AllByRecursion (λ line. length (line_spelled line) ≤ most_tokens) lines
+
+-- before the index stand lines that are short enough, and as many terminals of an item that has more than these
+pub record IsInItem (terminals : List Terminal) (i begun : ℕ) : Type 0 where
+  pub lines : List Line
+  pub short : AreShort lines
+  pub item : Item
+  pub before : take i terminals ≡ lines_spelled lines ++ take begun (item_spelled item)
+  pub index : i ≡ length (lines_spelled lines) + begun
+  pub more : begun < length (item_spelled item)
+
+-- a probe line begins at the index: `probe` begins an item there, and no `=` stands behind it
+pub record BeginsProbeLine (terminals : List Terminal) (i : ℕ) : Type 0 where
+  pub begins : IsInItem terminals i 0
+  pub probe : StandsAt terminals i Probe
+  pub behind : ¬ StandsAt terminals (i + 1) (Mark Equals)
+
+-- a `*` at once behind a `<`
+abbrev pub IsWildcard : List Terminal → ℕ → Type 0
+IsWildcard terminals i = StandsAt terminals i (Mark Star) × ((before : ℕ) × (i ≡ before + 1) × StandsAt terminals before (Mark Less))
+
+-- the first terminal that can't follow, where it is one of its item's first 2,048; behind an item's first terminal, `probe`,
+-- it makes the item a probe line, which is refused at its `probe`
+pub record IsRefused (terminals : List Terminal) (i : ℕ) : Type 0 where
+  pub first : CantFollow terminals i
+  pub begun : ℕ
+  pub in_item : IsInItem terminals i begun
+  pub few : begun < most_tokens
+  pub no_probe_line : (before : ℕ) → begun ≡ 1 → i ≡ before + 1 → ¬ StandsAt terminals before Probe
+
+-- the fault of a kind at an index
+abbrev pub IsFaultAt : List Terminal → ℕ → FileFault → Type 0
+IsFaultAt terminals i (Expected place) = IsRefused terminals i × (¬ StandsAt terminals i (Mark OpeningBracket)) × (¬ IsWildcard terminals i)
+IsFaultAt terminals i (Array place) = IsRefused terminals i × StandsAt terminals i (Mark OpeningBracket)
+IsFaultAt terminals i (Wildcard place) = IsRefused terminals i × IsWildcard terminals i
+IsFaultAt terminals i (TooDeep place) = IsInItem terminals i most_tokens × (i < length terminals)
+IsFaultAt terminals i (Unsupported place) = BeginsProbeLine terminals i
+IsFaultAt terminals i Memory = ⊥
+
+-- the place that a fault tells
+abbrev pub Tells : FileFault → Place → Type 0
+Tells (Expected place) there = place ≡ there
+Tells (Array place) there = place ≡ there
+Tells (Wildcard place) there = place ≡ there
+Tells (TooDeep place) there = place ≡ there
+Tells (Unsupported place) there = place ≡ there
+Tells Memory there = ⊥
+
+-- the tokens have this fault, at the place of the token that can't follow
+pub record IsFileFault (input : List ℕ) (tokens : List Token) (fault : FileFault) : Type 0 where
+  pub i : ℕ
+  pub is_fault : IsFaultAt (terminals input tokens) i fault
+  pub token : Token
+  pub is_token : slice_get tokens i ≡ Some token
+  pub place : Tells fault token.place
+
+-- the tree is that of the file that the tokens are, each of whose items is short enough
+pub record IsFileTree (terminals : List Terminal) (tree : FileTree) : Type 0 where
+  pub file : File
+  pub spelled : terminals ≡ file_spelled file
+  pub short : AreShort file.lines
+  pub short_system : length (item_spelled (System file.system file.ending)) ≤ most_tokens
+  pub tree_is : file_node_of tree ≡ file_tree file
+
+-- what may be answered: the tree, the fault, or that memory ran out
+abbrev pub ReadsFile : List ℕ → List Token → Result FileTree FileFault → Type 0
+ReadsFile input tokens (Ok tree) = IsFileTree (terminals input tokens) tree
+ReadsFile input tokens (Err Memory) = Unit {0}
+ReadsFile input tokens (Err fault) = IsFileFault input tokens fault

@@ -1,0 +1,6 @@
+pub mod Terminals
+pub mod Grammar
+pub mod Trees
+pub mod FileAnswers
+pub mod Machine
+pub mod Reading

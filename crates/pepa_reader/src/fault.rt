@@ -1,0 +1,50 @@
+ghost use Rattle.std.specs.Prelude.{◌≡◌};
+
+use pepa_lexer::Place;
+use std::alloc::AllocError;
+
+/// Why tokens are no file, and the place of the first token that can't follow.
+#[derive(Clone, Copy, Debug, PartialEq, Eq)]
+pub enum FileFault {
+    /// A token that can't follow what stands before it.
+    Expected(Place),
+    /// The 2,049th token of an item.
+    TooDeep(Place),
+    /// A `[` that can't follow.
+    Array(Place),
+    /// A `*` that stands at once behind a `<`, and can't follow.
+    Wildcard(Place),
+    /// The word `probe` of a probe line.
+    Unsupported(Place),
+    /// Memory ran out.
+    Memory,
+}
+
+impl From<AllocError> for FileFault {
+    ghost use Rattle.pepa_reader.specs.declared.fault.FileFault.TheVariants.{Memory};
+
+    ghost from_gives = { λ _ fault. fault ≡ Memory };
+
+    fn from(_error: AllocError) -> FileFault {
+        FileFault::Memory
+    }
+}
+
+/// Why a part of an item was not read.
+#[derive(Clone, Copy, Debug, PartialEq, Eq)]
+pub(crate) enum PartFault {
+    /// The token at this index can't follow, or there is none.
+    Refused(usize),
+    /// Memory ran out.
+    Memory,
+}
+
+impl From<AllocError> for PartFault {
+    ghost use Rattle.pepa_reader.specs.declared.fault.PartFault.TheVariants.{Memory};
+
+    ghost from_gives = { λ _ fault. fault ≡ Memory };
+
+    fn from(_error: AllocError) -> PartFault {
+        PartFault::Memory
+    }
+}
