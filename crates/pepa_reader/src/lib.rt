@@ -23,11 +23,11 @@
 
 mod fault;
 //mod file;
-//mod processes;
-//mod rates;
+mod processes;
+mod rates;
 mod terminal;
 mod trees;
-//mod words;
+mod words;
 
 pub use fault::FileFault;
 //pub use file::read_file;
