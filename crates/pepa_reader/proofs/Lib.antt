@@ -1,1 +1,2 @@
 pub mod MachineRuns
+pub mod MachineTexts
