@@ -1,7 +1,7 @@
 -- The machine reads nothing but what the grammar spells: each state says what has been read. And each unfinished state can be
 -- completed to an item.
 use Rattle.std.proofs.Common.{◌≡◌, List, [], ◌∷◌, ◌++◌, Option, Some, None, option_and_then, refl, ap, sym, subst, ◌∙◌, append_assoc, append-nil}
-use Rattle.std.proofs.lemmas.Option.{same_Some}
+use Rattle.std.proofs.lemmas.Option.{same_Some, option_and_then_some}
 use Rattle.pepa_lexer.specs.declared.kinds.Sign.TheVariants.{Equals, Semicolon, Opening, Closing, Comma, Dot, Plus, Minus, Star, Slash, Less, Greater, Or, OpeningBrace, ClosingBrace}
 use Rattle.pepa_reader.specs.declared.terminal.Terminal.{Terminal}
 use Rattle.pepa_reader.specs.declared.terminal.Terminal.TheVariants.{Small, Probe, Tau, Capital, Top, Number, Mark, End}
@@ -217,10 +217,6 @@ after_word_reads : (place : SetPlace) (words : List Word) (terminal : Terminal) 
 after_word_reads place words (Mark Comma) next h = reads (WantWord place words) next _ h (simp append_assoc)
 after_word_reads place words terminal next h = closes_set_reads place words terminal next h ∙ simp append_assoc
 
--- where one terminal alone can follow, and leads to the state `made`
-one_reads : (made next : State) (from : List Terminal) (terminal : Terminal) → text_of_state made ≡ from ++ terminal ∷ [] → Some made ≡ Some next → text_of_state next ≡ from ++ terminal ∷ []
-one_reads made next from terminal e h = reads made next _ h e
-
 -- a step adds its terminal to what has been read
 pub step_reads : (state : State) (terminal : Terminal) (next : State) → IsMet state → step state terminal ≡ Some next → text_of_state next ≡ text_of_state state ++ terminal ∷ []
 unfolding step
@@ -238,3 +234,122 @@ step_reads (AfterWord place words) terminal next met h = after_word_reads place 
 step_reads (WantWord place words) terminal next met h = takes_word_reads place words terminal next met h
 step_reads (WantEnd process) End next met h = reads (Done (System process Closed)) next _ h (simp append_assoc)
 step_reads _ _ next met h = cc
+
+-- ---- the states that the machine comes to
+
+abbrev IsMetIf : Option State → Type 0
+IsMetIf None = Unit {0}
+IsMetIf (Some state) = IsMet state
+
+after_met : (pending : List Pending) (prefix : Prefix) (chosen : ChosenSoFar) (joining : Option Joining) (outer : Outer) → IsMet (after pending prefix chosen joining outer)
+after_met [] prefix chosen joining outer = tt
+after_met (pending ∷ more) prefix chosen joining outer = after_met more (Activity pending.word pending.rate prefix) chosen joining outer
+
+starts_met : (pending : List Pending) (chosen : ChosenSoFar) (joining : Option Joining) (outer : Outer) (word : Word) → IsMetIf (starts pending chosen joining outer word)
+starts_met [] None None InSystem (Named name) = tt
+starts_met [] None None (InBrackets pending chosen joining outer) word = tt
+starts_met _ _ _ _ _ = tt
+
+want_met : (pending : List Pending) (chosen : ChosenSoFar) (joining : Option Joining) (outer : Outer) (terminal : Terminal) → IsMetIf (want_step pending chosen joining outer terminal)
+want_met pending chosen joining outer Capital = after_met pending Constant chosen joining outer
+want_met pending chosen joining outer Small = starts_met pending chosen joining outer (Named Plain)
+want_met pending chosen joining outer Probe = starts_met pending chosen joining outer (Named Probing)
+want_met pending chosen joining outer Tau = starts_met pending chosen joining outer Internal
+want_met pending chosen joining outer (Mark Opening) = tt
+want_met pending chosen joining outer _ = tt
+
+names_line_met : (hidden : Hidden) (chosen : ChosenSoFar) (joining : Option Joining) (outer : Outer) → IsMetIf (names_line hidden chosen joining outer)
+names_line_met (OnePrefix Constant) None None InSystem = tt
+names_line_met _ _ _ _ = tt
+
+closes_met : (process : Process) (outer : Outer) (terminal : Terminal) → IsMetIf (closes process outer terminal)
+closes_met process InLine (Mark Semicolon) = tt
+closes_met process InSystem (Mark Semicolon) = tt
+closes_met process (InBrackets pending chosen joining outer) (Mark Closing) = after_met pending (Grouped process) chosen joining outer
+closes_met process InSystem End = tt
+closes_met process _ _ = tt
+
+after_step_met : (hidden : Hidden) (chosen : ChosenSoFar) (joining : Option Joining) (outer : Outer) (terminal : Terminal) → IsMetIf (after_step hidden chosen joining outer terminal)
+after_step_met hidden chosen joining outer (Mark Slash) = tt
+after_step_met hidden chosen joining outer (Mark Plus) = tt
+after_step_met hidden chosen joining outer (Mark Or) = tt
+after_step_met hidden chosen joining outer (Mark Less) = tt
+after_step_met hidden chosen joining outer (Mark Equals) = names_line_met hidden chosen joining outer
+after_step_met hidden chosen joining outer terminal = closes_met (whole_process joining chosen hidden) outer terminal
+
+weighted_met : (product : Product) (sign : ProductSign) (place : RatePlace) → IsMetIf (weighted_step product sign place)
+weighted_met (OneFactor Amount) Multiplied place = tt
+weighted_met _ _ _ = tt
+
+want_factor_met : (summing : Option Summing) (multiplying : Option Multiplying) (outer : RateOuter) (terminal : Terminal) → IsMetIf (want_factor_step summing multiplying outer terminal)
+want_factor_met None None (Whole place) Top = tt
+want_factor_met None (Some multiplying) (Whole place) Top = weighted_met multiplying.product multiplying.sign place
+want_factor_met _ _ _ (Mark Opening) = tt
+want_factor_met _ _ _ _ = tt
+
+closes_rate_met : (rate : Rate) (place : RatePlace) (terminal : Terminal) → IsMetIf (closes_rate rate place terminal)
+closes_rate_met rate (OfLine name) (Mark Semicolon) = tt
+closes_rate_met rate (OfActivity word pending chosen joining outer) (Mark Closing) = tt
+closes_rate_met rate _ _ = tt
+
+closes_sum_met : (sum : Sum) (outer : RateOuter) (terminal : Terminal) → IsMetIf (closes_sum sum outer terminal)
+closes_sum_met sum (Whole place) terminal = closes_rate_met (Computed sum) place terminal
+closes_sum_met sum (InRateBrackets summing multiplying outer) (Mark Closing) = tt
+closes_sum_met sum _ _ = tt
+
+after_factor_met : (factor : Factor) (summing : Option Summing) (multiplying : Option Multiplying) (outer : RateOuter) (terminal : Terminal) → IsMetIf (after_factor_step factor summing multiplying outer terminal)
+after_factor_met factor summing multiplying outer (Mark Star) = tt
+after_factor_met factor summing multiplying outer (Mark Slash) = tt
+after_factor_met factor summing multiplying outer (Mark Plus) = tt
+after_factor_met factor summing multiplying outer (Mark Minus) = tt
+after_factor_met factor summing multiplying outer terminal = closes_sum_met (whole_sum summing multiplying factor) outer terminal
+
+closes_set_met : (place : SetPlace) (words : List Word) (terminal : Terminal) → IsMetIf (closes_set place words terminal)
+closes_set_met (OfCooperation process outer) words (Mark Greater) = tt
+closes_set_met (OfHiding hidden chosen joining outer) words (Mark ClosingBrace) = tt
+closes_set_met _ _ _ = tt
+
+has_word : (words : List Word) (word : Word) → HasWord (words ++ word ∷ [])
+has_word [] word = tt
+has_word (first ∷ words) word = tt
+
+step_met : (state : State) (terminal : Terminal) → IsMet state → IsMetIf (step state terminal)
+unfolding step
+step_met (Want pending chosen joining outer) terminal met = want_met pending chosen joining outer terminal
+step_met (After hidden chosen joining outer) terminal met = after_step_met hidden chosen joining outer terminal
+step_met (WantFactor summing multiplying outer) terminal met = want_factor_met summing multiplying outer terminal
+step_met (AfterFactor factor summing multiplying outer) terminal met = after_factor_met factor summing multiplying outer terminal
+step_met (AfterTop rate place) terminal met = closes_rate_met rate place terminal
+step_met (AtSet place) Small met = tt
+step_met (AtSet place) Probe met = tt
+step_met (AtSet place) Tau met = tt
+step_met (AtSet place) terminal met = closes_set_met place [] terminal
+step_met (AfterWord place words) (Mark Comma) met = met
+step_met (AfterWord place words) terminal met = closes_set_met place words terminal
+step_met (WantWord place words) Small met = has_word words (Named Plain)
+step_met (WantWord place words) Probe met = has_word words (Named Probing)
+step_met (WantWord place words) Tau met = has_word words Internal
+step_met (WantEquals name) (Mark Equals) met = tt
+step_met (WantComma word pending chosen joining outer) (Mark Comma) met = tt
+step_met (WantDot word rate pending chosen joining outer) (Mark Dot) met = tt
+step_met (WantBrace hidden chosen joining outer) (Mark OpeningBrace) met = tt
+step_met _ End met = tt
+step_met _ _ met = tt
+
+-- a step from a state that is met leads to one that is met
+pub step_keeps : (state : State) (terminal : Terminal) (next : State) → IsMet state → step state terminal ≡ Some next → IsMet next
+step_keeps state terminal next met h = subst IsMetIf h (step_met state terminal met)
+
+-- what has been read is what was read before, and the text
+pub run_adds : (text : List Terminal) (from state : State) → IsMet from → run from text ≡ Some state → text_of_state state ≡ text_of_state from ++ text
+unfolding run
+run_adds [] from state met h = sym (ap text_of_state (same_Some from state h)) ∙ sym (append-nil (text_of_state from))
+run_adds (terminal ∷ more) from state met h =
+    option_and_then_some (λ next. run next more) (step from terminal) state h (λ next made ran.
+        run_adds more next state (step_keeps from terminal next met made) ran
+        ∙ ap (λ l. l ++ more) (step_reads from terminal next met made)
+        ∙ append_assoc (text_of_state from) (terminal ∷ []) more)
+
+-- from the start, what has been read is the text
+pub run_reads : (text : List Terminal) (state : State) → run start text ≡ Some state → text_of_state state ≡ text
+run_reads text state h = run_adds text start state tt h
