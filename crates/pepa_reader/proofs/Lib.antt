@@ -1,2 +1,4 @@
 pub mod MachineRuns
+pub mod MachineStates
 pub mod MachineTexts
+pub mod MachineEnds

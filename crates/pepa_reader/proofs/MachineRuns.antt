@@ -1,10 +1,10 @@
 -- The machine reads what the grammar spells: from the state that wants a part, the part's terminals lead to the state behind it.
 use Rattle.std.proofs.Common.{◌≡◌, List, [], ◌∷◌, ◌++◌, Option, Some, None, option_and_then, refl, ap, sym, subst, ◌∙◌, append_assoc, append-nil}
-use Rattle.pepa_lexer.specs.declared.kinds.Sign.TheVariants.{Equals, Semicolon, Opening, Closing, Comma, Dot, Plus, Minus, Star, Slash, Less, Greater, Or, OpeningBrace, ClosingBrace}
+use Rattle.pepa_lexer.specs.declared.kinds.Sign.TheVariants.{Semicolon, Closing, Comma, Dot, Plus, Minus, Star, Slash, Less, Greater, Or, OpeningBrace, ClosingBrace}
 use Rattle.pepa_reader.specs.declared.terminal.Terminal.{Terminal}
-use Rattle.pepa_reader.specs.declared.terminal.Terminal.TheVariants.{Small, Probe, Tau, Capital, Top, Number, Mark, End}
-use Rattle.pepa_reader.specs.Grammar.{SmallName, Plain, Probing, Word, Named, Internal, SumSign, Added, Subtracted, ProductSign, Multiplied, Divided, Sum, OneProduct, Summed, Product, OneFactor, Produced, Factor, Amount, Naming, Bracketed, Rate, Passive, Weighted, Computed, Cooperation, Parallel, Sharing, Process, OneChoice, Cooperating, Choice, OneHidden, Chosen, Hidden, OnePrefix, Hiding, Prefix, Activity, Constant, Grouped, Line, RateNamed, ProcessNamed, Ending, Open, Closed, Item, OneLine, System, small_spelled, word_spelled, further_words, words_spelled, sum_sign_spelled, product_sign_spelled, sum_spelled, product_spelled, factor_spelled, rate_spelled, cooperation_spelled, process_spelled, choice_spelled, hidden_spelled, prefix_spelled, line_spelled, ending_spelled, item_spelled}
-use Rattle.pepa_reader.specs.Machine.{Pending, ChosenSoFar, Joining, Outer, InLine, InSystem, InBrackets, RatePlace, OfLine, OfActivity, Summing, Multiplying, RateOuter, Whole, InRateBrackets, SetPlace, OfCooperation, OfHiding, State, Want, After, WantEquals, WantComma, WantFactor, AfterFactor, AfterTop, WantDot, WantBrace, AtSet, AfterWord, WantWord, WantEnd, Done, whole_process, whole_sum, after, set_read, closes, closes_rate, closes_set, step, run, start, behind_product, behind_sum, behind_rate, behind_choice, behind_process}
+use Rattle.pepa_reader.specs.declared.terminal.Terminal.TheVariants.{Mark, End}
+use Rattle.pepa_reader.specs.Grammar.{Plain, Probing, Word, Named, Internal, Added, Subtracted, Multiplied, Divided, Sum, OneProduct, Summed, Product, OneFactor, Produced, Factor, Amount, Naming, Bracketed, Rate, Passive, Weighted, Computed, Cooperation, Parallel, Sharing, Process, OneChoice, Cooperating, Choice, OneHidden, Chosen, Hidden, OnePrefix, Hiding, Prefix, Activity, Constant, Grouped, Line, RateNamed, ProcessNamed, Open, Closed, Item, OneLine, System, word_spelled, further_words, words_spelled, sum_spelled, product_spelled, factor_spelled, rate_spelled, cooperation_spelled, process_spelled, choice_spelled, hidden_spelled, prefix_spelled, line_spelled, item_spelled}
+use Rattle.pepa_reader.specs.Machine.{Pending, ChosenSoFar, Joining, Outer, InLine, InSystem, InBrackets, RatePlace, OfLine, OfActivity, Summing, Multiplying, RateOuter, Whole, InRateBrackets, SetPlace, OfCooperation, OfHiding, State, Want, After, WantComma, WantFactor, AfterFactor, WantDot, AtSet, AfterWord, WantWord, WantEnd, Done, whole_process, whole_sum, after, set_read, closes, closes_rate, closes_set, step, run, start, behind_product, behind_sum, behind_rate, behind_choice, behind_process}
 
 -- ---- runs in two parts
 
@@ -88,7 +88,7 @@ closing_behind_sum (Summed sum sign (OneFactor factor)) summing multiplying oute
 closing_behind_sum (Summed sum sign (Produced product times factor)) summing multiplying outer = refl
 
 -- only `;` and `)` close a rate, and behind a factor they do nothing else
-closes_after_factor : (factor : Factor) (summing : Option Summing) (multiplying : Option Multiplying) (place : RatePlace) (terminal : Terminal) (next : State) → closes_rate (Computed (whole_sum summing multiplying factor)) place terminal ≡ Some next → step (AfterFactor factor summing multiplying (Whole place)) terminal ≡ Some next
+pub closes_after_factor : (factor : Factor) (summing : Option Summing) (multiplying : Option Multiplying) (place : RatePlace) (terminal : Terminal) (next : State) → closes_rate (Computed (whole_sum summing multiplying factor)) place terminal ≡ Some next → step (AfterFactor factor summing multiplying (Whole place)) terminal ≡ Some next
 unfolding step
 closes_after_factor factor summing multiplying (OfLine name) (Mark Semicolon) next h = h
 closes_after_factor factor summing multiplying (OfActivity word pending chosen joining outer) (Mark Closing) next h = h
@@ -189,14 +189,14 @@ first_one place (Named Probing) = refl
 first_one place Internal = refl
 
 -- only `>` and `}` close a set
-closes_words : (place : SetPlace) (words : List Word) (close : Terminal) (next : State) → closes_set place words close ≡ Some next → step (AfterWord place words) close ≡ Some next
+pub closes_words : (place : SetPlace) (words : List Word) (close : Terminal) (next : State) → closes_set place words close ≡ Some next → step (AfterWord place words) close ≡ Some next
 unfolding step
 closes_words (OfCooperation process outer) words (Mark Greater) next h = h
 closes_words (OfHiding hidden chosen joining outer) words (Mark ClosingBrace) next h = h
 closes_words _ words _ next h = cc
 
 -- the same where the set has no words
-closes_no_words : (place : SetPlace) (close : Terminal) (next : State) → closes_set place [] close ≡ Some next → step (AtSet place) close ≡ Some next
+pub closes_no_words : (place : SetPlace) (close : Terminal) (next : State) → closes_set place [] close ≡ Some next → step (AtSet place) close ≡ Some next
 unfolding step
 closes_no_words (OfCooperation process outer) (Mark Greater) next h = h
 closes_no_words (OfHiding hidden chosen joining outer) (Mark ClosingBrace) next h = h
