@@ -1,1 +1,6 @@
+pub mod MachineRuns
+pub mod MachineStates
+pub mod MachineTexts
+pub mod MachineEnds
 pub mod Spelled
+pub mod RateReading

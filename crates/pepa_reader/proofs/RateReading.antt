@@ -11,7 +11,7 @@ use Rattle.pepa_reader.specs.Grammar.{SmallName, SumSign, Added, Subtracted, Pro
 use Rattle.pepa_reader.specs.Trees.{RateNode, OpAt, BracketOf, rate_node_of, sum_tree, product_tree, factor_tree}
 use Rattle.pepa_reader.specs.Machine.{Summing, Multiplying, RatePlace, OfLine, OfActivity, RateOuter, Whole, InRateBrackets, State, WantFactor, AfterFactor, AfterTop, IsUndone, step, run, whole_sum, closes_sum, closes_rate, top_step, weighted_step, behind_sum, behind_product, behind_rate}
 use Rattle.pepa_reader.specs.Reading.{Begins, NoSmall, IsSpelled, IsAt, Expects, Refuses, Stops, BeginsWeighted, IsNoWeight, AdmitsFactor, IsFactor, ReadsFactor, EndsProduct, EndsSum, IsProduct, ReadsProduct, IsSum, ReadsSum, EndsRate, IsRate, ReadsRate}
-use Rattle.pepa_reader.proofs.Spelled.{spelled_append, stops_here, stops_behind, run-append, run_along}
+use Rattle.pepa_reader.proofs.Spelled.{spelled_append, stops_here, stops_behind}
 use Rattle.pepa_reader.proofs.MachineRuns.{sum_runs, product_runs, star_behind_product, slash_behind_product, plus_behind_sum, minus_behind_sum}
 
 -- ---- what can't follow

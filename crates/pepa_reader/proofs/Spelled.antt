@@ -8,6 +8,7 @@ use Rattle.pepa_reader.specs.declared.terminal.Terminal.{Terminal}
 use Rattle.pepa_reader.specs.declared.terminal.Text.{Text}
 use Rattle.pepa_reader.specs.Terminals.{terminal_of}
 use Rattle.pepa_reader.specs.Machine.{State, IsUndone, step, run}
+use Rattle.pepa_reader.proofs.MachineRuns.{run_along}
 use Rattle.pepa_reader.specs.Reading.{kinds_of, Begins, IsSpelled, IsAt, Refuses, Stops}
 
 -- ---- what stands at an index
@@ -70,15 +71,6 @@ spelled_as {kinds = kinds} {at = at} {next = next} e h = subst (λ text. IsSpell
 
 -- ---- runs and stops
 
-behind_step : (next : Option State) (front rest : List Terminal) → ((state : State) → run state (front ++ rest) ≡ option_and_then (λ next. run next rest) (run state front)) → option_and_then (λ state. run state (front ++ rest)) next ≡ option_and_then (λ state. run state rest) (option_and_then (λ state. run state front) next)
-behind_step None front rest more = refl
-behind_step (Some state) front rest more = more state
-
-pub run-append : (state : State) (front rest : List Terminal) → run state (front ++ rest) ≡ option_and_then (λ next. run next rest) (run state front)
-unfolding run
-run-append state [] rest = refl
-run-append state (terminal ∷ front) rest = behind_step (step state terminal) front rest (λ next. run-append next front rest)
-
 pub stops_here : {kinds : List Terminal} {at : ℕ} {state : State} → IsUndone state → Refuses state (drop at kinds) → Stops kinds at at state
 unfolding run
 stops_here {kinds = kinds} {at = at} {state = state} undone refused =
@@ -87,4 +79,4 @@ stops_here {kinds = kinds} {at = at} {state = state} undone refused =
 pub stops_behind : {kinds : List Terminal} {at mid i : ℕ} {text : List Terminal} (from to : State) → IsSpelled kinds at mid text → run from text ≡ Some to → Stops kinds mid i to → Stops kinds at i from
 stops_behind {text = text} from to spelled ran stops =
     record { state = stops.state; text = text ++ stops.text; spelled = spelled_append spelled stops.spelled;
-             ran = run-append from text stops.text ∙ ap (option_and_then (λ next. run next stops.text)) ran ∙ stops.ran; undone = stops.undone; refused = stops.refused }
+             ran = run_along from to text stops.text ran ∙ stops.ran; undone = stops.undone; refused = stops.refused }
