@@ -134,10 +134,14 @@ weighted_in_front : (rest more last : List Terminal) → rest ≡ Number ∷ mor
 weighted_in_front rest more [] e f b = absurd b
 weighted_in_front rest more (top ∷ last) e f b = rw (e, f, b) tt
 
+no_later_weight : (kinds : List Terminal) (at next behind : ℕ) (product : Product) (sign : ProductSign) → IsSpelled kinds at next (product_spelled product) → IsAt kinds next behind (product_sign_spelled sign) → ¬ BeginsWeighted (drop at kinds) → IsNoWeight product sign (drop behind kinds)
+no_later_weight kinds at next behind (OneFactor Amount) Multiplied spelled star weighted = λ top. weighted (weighted_in_front (drop at kinds) (drop next kinds) (drop behind kinds) spelled.whole star.spelled.whole top)
+no_later_weight kinds at next behind _ _ spelled star weighted = tt
+
 -- where the first factor of a product may be no weight, no later one is a passive rate
 admits_next : (kinds : List Terminal) (at next behind : ℕ) (product : Product) (sign : ProductSign) (summing : Option Summing) (outer : RateOuter) → IsSpelled kinds at next (product_spelled product) → IsAt kinds next behind (product_sign_spelled sign) → AdmitsFactor summing None outer (drop at kinds) → AdmitsFactor summing (Some (record { product = product; sign = sign })) outer (drop behind kinds)
-admits_next kinds at next behind (OneFactor Amount) Multiplied None (Whole place) spelled star admits = λ top. admits.1 (weighted_in_front (drop at kinds) (drop next kinds) (drop behind kinds) spelled.whole star.spelled.whole top)
-admits_next kinds at next behind _ _ _ _ spelled star admits = tt
+admits_next kinds at next behind product sign None (Whole place) spelled star admits = no_later_weight kinds at next behind product sign spelled star admits.1
+admits_next kinds at next behind product sign _ _ spelled star admits = tt
 
 pub product_fails : (kinds : List Terminal) (at behind : ℕ) (read : RateRead) (sign : ProductSign) (fault : PartFault) → IsProduct kinds at read → IsAt kinds read.next behind (product_sign_spelled sign) → ReadsFactor kinds behind (Err fault) → ReadsProduct kinds at (Err fault)
 product_fails kinds at behind read sign (Refused i) product is_sign factor = λ summing outer admits.
