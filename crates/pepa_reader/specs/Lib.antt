@@ -4,3 +4,4 @@ pub mod Trees
 pub mod FileAnswers
 pub mod Machine
 pub mod Reading
+pub mod ItemReading

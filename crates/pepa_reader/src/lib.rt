@@ -22,7 +22,8 @@
 #![tactic(auto)]
 
 mod fault;
-//mod file;
+mod file;
+mod items;
 mod processes;
 mod rates;
 mod terminal;
@@ -30,11 +31,11 @@ mod trees;
 mod words;
 
 pub use fault::FileFault;
-//pub use file::read_file;
+pub use file::read_file;
 pub use terminal::Terminal;
 pub use trees::{
     FileTree, Indices, ProcessLine, ProcessLines, ProcessTree, RateLine, RateLines, RateTree,
 };
 
-//#[cfg(test)]
-//mod tests;
+#[cfg(test)]
+mod tests;
