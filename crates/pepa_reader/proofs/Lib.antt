@@ -2,3 +2,4 @@ pub mod MachineRuns
 pub mod MachineStates
 pub mod MachineTexts
 pub mod MachineEnds
+pub mod Items
