@@ -42,6 +42,7 @@ unfolding step run
 done_stays item [] state h = (refl, sym (same_Some (Done item) state h))
 done_stays item (terminal ∷ more) state h = cc
 
+-- an unfinished state is no item's end
 not_done : (state : State) (item : Item) → IsUndone state → state ≡ Done item → ⊥
 not_done state item undone e = subst IsUndone e undone
 
@@ -52,6 +53,7 @@ item_alone a b d e = same_item (done_stays a d (Done b) (sym (run_along start (D
     same_item : Done b ≡ Done a → a ≡ b
     same_item h = cc
 
+-- where the items are one, so is what stands behind
 same_front : (a b : Item) (x y : List Terminal) → a ≡ b → item_spelled a ++ x ≡ item_spelled b ++ y → (a ≡ b) × (x ≡ y)
 same_front a b x y same e = (same, append_cancel_left (item_spelled b) x y (ap (λ item. item_spelled item ++ x) (sym same) ∙ e))
 
@@ -68,6 +70,7 @@ pub record Completed (text : List Terminal) : Type 0 where
   pub spelled : item_spelled item ≡ text ++ more
   pub some : 0 < length more
 
+-- each begun item is completed by some terminals
 pub completed : (text : List Terminal) (state : State) → run start text ≡ Some state → IsUndone state → Completed text
 unfolding run
 completed text state ran undone = go (ends state undone).0 (ends state undone).1 (ends state undone).2
@@ -135,6 +138,7 @@ no_file [] (other ∷ others) process ending text state terminal more ran undone
 no_file (line ∷ lines) [] process ending text state terminal more ran undone none e = no_line line process ending (lines_spelled lines ++ (text ++ terminal ∷ more)) [] (sym (append_assoc (line_spelled line) (lines_spelled lines) (text ++ terminal ∷ more)) ∙ e ∙ sym (append-nil (item_spelled (System process ending))))
 no_file (line ∷ lines) (other ∷ others) process ending text state terminal more ran undone none e = no_file lines others process ending text state terminal more ran undone none (one_item (OneLine line) (OneLine other) (lines_spelled lines ++ (text ++ terminal ∷ more)) (lines_spelled others ++ item_spelled (System process ending)) (sym (append_assoc (line_spelled line) (lines_spelled lines) (text ++ terminal ∷ more)) ∙ e ∙ append_assoc (line_spelled other) (lines_spelled others) (item_spelled (System process ending)))).1
 
+-- no file begins with lines, a begun item, and what the machine refuses
 pub cant_go_on : (lines : List Line) (text : List Terminal) (state : State) (terminal : Terminal) → run start text ≡ Some state → IsUndone state → step state terminal ≡ None → ¬ CanGoOn (lines_spelled lines ++ (text ++ terminal ∷ []))
 cant_go_on lines text state terminal ran undone none go =
     let more = go.0 in
@@ -153,11 +157,13 @@ no_end_inside text state ran undone =
 
 -- ---- files
 
+-- two files part by part
 record SameFile (lines others : List Line) (p q : Process) (e f : Ending) : Type 0 where
   same_lines : lines ≡ others
   same_system : p ≡ q
   same_ending : e ≡ f
 
+-- lines are compared one by one, and then the systems
 same_lines_and_system : (lines others : List Line) (p q : Process) (e f : Ending) → lines_spelled lines ++ item_spelled (System p e) ≡ lines_spelled others ++ item_spelled (System q f) → SameFile lines others p q e f
 same_lines_and_system [] [] p q e f h = systems (one_item (System p e) (System q f) [] [] (append-nil (item_spelled (System p e)) ∙ h ∙ sym (append-nil (item_spelled (System q f))))).0
   where
