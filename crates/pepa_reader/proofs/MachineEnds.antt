@@ -28,6 +28,7 @@ around : List Pending → Prefix → Prefix
 around [] prefix = prefix
 around (pending ∷ more) prefix = around more (Activity pending.word pending.rate prefix)
 
+-- behind a prefix stands the state of a whole hidden part
 after_is : (pending : List Pending) (prefix : Prefix) (chosen : ChosenSoFar) (joining : Option Joining) (outer : Outer) → after pending prefix chosen joining outer ≡ After (OnePrefix (around pending prefix)) chosen joining outer
 unfolding around
 after_is [] prefix chosen joining outer = refl
@@ -50,6 +51,7 @@ want_ends pending chosen joining outer =
     step_ends (Want pending chosen joining outer) (after pending Constant chosen joining outer) Capital refl
       (subst Ends (sym (after_is pending Constant chosen joining outer)) (after_hidden_ends outer (OnePrefix (around pending Constant)) chosen joining))
 
+-- the point, and then a prefix
 want_dot_ends : (word : Word) (rate : Rate) (pending : List Pending) (chosen : ChosenSoFar) (joining : Option Joining) (outer : Outer) → Ends (WantDot word rate pending chosen joining outer)
 unfolding step
 want_dot_ends word rate pending chosen joining outer = step_ends (WantDot word rate pending chosen joining outer) (Want (record { word = word; rate = rate } ∷ pending) chosen joining outer) (Mark Dot) refl (want_ends (record { word = word; rate = rate } ∷ pending) chosen joining outer)
@@ -59,6 +61,7 @@ place_ends : (state : State) (rate : Rate) (place : RatePlace) → ((terminal : 
 place_ends state rate (OfLine name) closing = step_ends state (Done (OneLine (RateNamed name rate))) (Mark Semicolon) (closing (Mark Semicolon) _ refl) (done_ends _)
 place_ends state rate (OfActivity word pending chosen joining outer) closing = step_ends state (WantDot word rate pending chosen joining outer) (Mark Closing) (closing (Mark Closing) _ refl) (want_dot_ends word rate pending chosen joining outer)
 
+-- brackets of rates are closed likewise
 after_factor_ends : (outer : RateOuter) (factor : Factor) (summing : Option Summing) (multiplying : Option Multiplying) → Ends (AfterFactor factor summing multiplying outer)
 unfolding step
 after_factor_ends (Whole place) factor summing multiplying = place_ends (AfterFactor factor summing multiplying (Whole place)) (Computed (whole_sum summing multiplying factor)) place (closes_after_factor factor summing multiplying place)
@@ -76,9 +79,11 @@ set_ends : (state : State) (place : SetPlace) (words : List Word) → ((close : 
 set_ends state (OfCooperation process outer) words closing = step_ends state _ (Mark Greater) (closing (Mark Greater) _ refl) (want_ends [] None (Some (record { process = process; coop = Sharing words })) outer)
 set_ends state (OfHiding hidden chosen joining outer) words closing = step_ends state _ (Mark ClosingBrace) (closing (Mark ClosingBrace) _ refl) (after_hidden_ends outer (Hiding hidden words) chosen joining)
 
+-- an empty set is closed
 at_set_ends : (place : SetPlace) → Ends (AtSet place)
 at_set_ends place = set_ends (AtSet place) place [] (closes_no_words place)
 
+-- so is one with words
 after_word_ends : (place : SetPlace) (words : List Word) → Ends (AfterWord place words)
 after_word_ends place words = set_ends (AfterWord place words) place words (closes_words place words)
 
@@ -106,6 +111,7 @@ ends (Done item) undone = absurd undone
 made_item : (item : Item) (next : State) → Some (Done item) ≡ Some next → (item : Item) × (next ≡ Done item)
 made_item item next h = (item, sym (same_Some (Done item) next h))
 
+-- only a whole system takes the end, and then it is an item
 pub end_ends : (state next : State) → step state End ≡ Some next → (item : Item) × (next ≡ Done item)
 unfolding step
 end_ends (After hidden chosen joining InSystem) next h = made_item (System (whole_process joining chosen hidden) Open) next h

@@ -21,6 +21,7 @@ abbrev IsMetIf : Option State → Type 0
 IsMetIf None = Unit {0}
 IsMetIf (Some state) = IsMet state
 
+-- behind a prefix; likewise for each kind of step below
 after_met : (pending : List Pending) (prefix : Prefix) (chosen : ChosenSoFar) (joining : Option Joining) (outer : Outer) → IsMet (after pending prefix chosen joining outer)
 after_met [] prefix chosen joining outer = tt
 after_met (pending ∷ more) prefix chosen joining outer = after_met more (Activity pending.word pending.rate prefix) chosen joining outer
@@ -89,10 +90,12 @@ closes_set_met (OfCooperation process outer) words (Mark Greater) = tt
 closes_set_met (OfHiding hidden chosen joining outer) words (Mark ClosingBrace) = tt
 closes_set_met _ _ _ = tt
 
+-- words with one more behind them are some
 has_word : (words : List Word) (word : Word) → HasWord (words ++ word ∷ [])
 has_word [] word = tt
 has_word (first ∷ words) word = tt
 
+-- whatever step there is leads to a state that is met
 step_met : (state : State) (terminal : Terminal) → IsMet state → IsMetIf (step state terminal)
 unfolding step
 step_met (Want pending chosen joining outer) terminal met = want_met pending chosen joining outer terminal

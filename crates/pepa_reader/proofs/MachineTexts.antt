@@ -19,14 +19,17 @@ abbrev pub pending_text : List Pending → List Terminal
 pending_text [] = []
 pending_text (pending ∷ more) = pending_text more ++ (activity_text pending.word ++ (rate_spelled pending.rate ++ Mark Closing ∷ Mark Dot ∷ []))
 
+-- a choice and its `+`
 abbrev pub chosen_text : ChosenSoFar → List Terminal
 chosen_text None = []
 chosen_text (Some choice) = choice_spelled choice ++ Mark Plus ∷ []
 
+-- a process and what joins it to the next choice
 abbrev pub joining_text : Option Joining → List Terminal
 joining_text None = []
 joining_text (Some joining) = process_spelled joining.process ++ cooperation_spelled joining.coop
 
+-- what stands before a process
 abbrev pub outer_text : Outer → List Terminal
 outer_text InLine = Capital ∷ Mark Equals ∷ []
 outer_text InSystem = []
@@ -36,26 +39,32 @@ outer_text (InBrackets pending chosen joining outer) = outer_text outer ++ (join
 abbrev pub want_text : List Pending → ChosenSoFar → Option Joining → Outer → List Terminal → List Terminal
 want_text pending chosen joining outer behind = outer_text outer ++ (joining_text joining ++ (chosen_text chosen ++ (pending_text pending ++ behind)))
 
+-- a sum and its sign
 abbrev pub summing_text : Option Summing → List Terminal
 summing_text None = []
 summing_text (Some summing) = sum_spelled summing.sum ++ sum_sign_spelled summing.sign ∷ []
 
+-- a product and its sign
 abbrev pub multiplying_text : Option Multiplying → List Terminal
 multiplying_text None = []
 multiplying_text (Some multiplying) = product_spelled multiplying.product ++ product_sign_spelled multiplying.sign ∷ []
 
+-- what stands before a rate
 abbrev pub place_text : RatePlace → List Terminal
 place_text (OfLine name) = small_spelled name ∷ Mark Equals ∷ []
 place_text (OfActivity word pending chosen joining outer) = want_text pending chosen joining outer (activity_text word)
 
+-- what stands before a sum
 abbrev pub rate_outer_text : RateOuter → List Terminal
 rate_outer_text (Whole place) = place_text place
 rate_outer_text (InRateBrackets summing multiplying outer) = rate_outer_text outer ++ (summing_text summing ++ (multiplying_text multiplying ++ Mark Opening ∷ []))
 
+-- what stands before the words of a set
 abbrev pub set_place_text : SetPlace → List Terminal
 set_place_text (OfCooperation process outer) = outer_text outer ++ (process_spelled process ++ Mark Less ∷ [])
 set_place_text (OfHiding hidden chosen joining outer) = outer_text outer ++ (joining_text joining ++ (chosen_text chosen ++ (hidden_spelled hidden ++ Mark Slash ∷ Mark OpeningBrace ∷ [])))
 
+-- what has been read to come to the state
 abbrev pub text_of_state : State → List Terminal
 text_of_state (Want pending chosen joining outer) = want_text pending chosen joining outer []
 text_of_state (After hidden chosen joining outer) = outer_text outer ++ (joining_text joining ++ (chosen_text chosen ++ hidden_spelled hidden))
@@ -74,6 +83,7 @@ text_of_state (Done item) = item_spelled item
 
 -- ---- the texts of whole parts
 
+-- a choice is what was read of it and its last part; likewise for the others below
 choice_with_text : (chosen : ChosenSoFar) (hidden : Hidden) → choice_spelled (chosen_with chosen hidden) ≡ chosen_text chosen ++ hidden_spelled hidden
 choice_with_text None hidden = refl
 choice_with_text (Some choice) hidden = simp append_assoc
@@ -95,10 +105,12 @@ after_text : (pending : List Pending) (prefix : Prefix) (chosen : ChosenSoFar) (
 after_text [] prefix chosen joining outer = refl
 after_text (pending ∷ more) prefix chosen joining outer = after_text more (Activity pending.word pending.rate prefix) chosen joining outer ∙ simp append_assoc
 
+-- one word more at the end of those behind commas
 further_text : (words : List Word) (word : Word) → further_words (words ++ word ∷ []) ≡ further_words words ++ Mark Comma ∷ word_spelled word ∷ []
 further_text [] word = refl
 further_text (first ∷ words) word = ap (λ l. Mark Comma ∷ word_spelled first ∷ l) (further_text words word)
 
+-- one word more at the end of some words
 words_text : (words : List Word) (word : Word) → HasWord words → words_spelled (words ++ word ∷ []) ≡ words_spelled words ++ Mark Comma ∷ word_spelled word ∷ []
 words_text [] word h = absurd h
 words_text (first ∷ words) word h = ap (λ l. word_spelled first ∷ l) (further_text words word)
@@ -109,11 +121,13 @@ words_text (first ∷ words) word h = ap (λ l. word_spelled first ∷ l) (furth
 reads : (made next : State) (text : List Terminal) → Some made ≡ Some next → text_of_state made ≡ text → text_of_state next ≡ text
 reads made next text h e = subst (λ state. text_of_state state ≡ text) (same_Some made next h) e
 
+-- the start of a rate line or of an activity
 starts_reads : (pending : List Pending) (chosen : ChosenSoFar) (joining : Option Joining) (outer : Outer) (word : Word) (next : State) → starts pending chosen joining outer word ≡ Some next → text_of_state next ≡ want_text pending chosen joining outer [] ++ word_spelled word ∷ []
 starts_reads [] None None InSystem (Named name) next h = reads (WantEquals name) next _ h refl
 starts_reads [] None None (InBrackets pending chosen joining outer) word next h = reads (WantComma word pending chosen joining outer) next _ h (simp (append_assoc, append-nil))
 starts_reads _ _ _ _ _ next h = cc
 
+-- the start of a prefix
 want_reads : (pending : List Pending) (chosen : ChosenSoFar) (joining : Option Joining) (outer : Outer) (terminal : Terminal) (next : State) → want_step pending chosen joining outer terminal ≡ Some next → text_of_state next ≡ want_text pending chosen joining outer [] ++ terminal ∷ []
 want_reads pending chosen joining outer Capital next h = reads (after pending Constant chosen joining outer) next _ h (after_text pending Constant chosen joining outer ∙ simp append_assoc)
 want_reads pending chosen joining outer (Mark Opening) next h = reads (Want [] None None (InBrackets pending chosen joining outer)) next _ h (simp (append_assoc, append-nil))
@@ -122,10 +136,12 @@ want_reads pending chosen joining outer Probe next h = starts_reads pending chos
 want_reads pending chosen joining outer Tau next h = starts_reads pending chosen joining outer Internal next h
 want_reads pending chosen joining outer _ next h = cc
 
+-- the `=` of a process line
 names_line_reads : (hidden : Hidden) (chosen : ChosenSoFar) (joining : Option Joining) (outer : Outer) (next : State) → names_line hidden chosen joining outer ≡ Some next → text_of_state next ≡ text_of_state (After hidden chosen joining outer) ++ Mark Equals ∷ []
 names_line_reads (OnePrefix Constant) None None InSystem next h = reads (Want [] None None InLine) next _ h refl
 names_line_reads _ _ _ _ next h = cc
 
+-- what closes a process
 closes_reads : (process : Process) (outer : Outer) (terminal : Terminal) (next : State) → closes process outer terminal ≡ Some next → text_of_state next ≡ outer_text outer ++ (process_spelled process ++ terminal ∷ [])
 closes_reads process InLine (Mark Semicolon) next h = reads (Done (OneLine (ProcessNamed process))) next _ h refl
 closes_reads process InSystem (Mark Semicolon) next h = reads (WantEnd process) next _ h refl
@@ -137,6 +153,7 @@ closes_reads process _ _ next h = cc
 behind_text : (hidden : Hidden) (chosen : ChosenSoFar) (joining : Option Joining) (outer : Outer) (behind : List Terminal) → outer_text outer ++ (process_spelled (whole_process joining chosen hidden) ++ behind) ≡ text_of_state (After hidden chosen joining outer) ++ behind
 behind_text hidden chosen joining outer behind = simp (append_assoc, process_with_text joining chosen hidden)
 
+-- what stands behind a prefix
 after_reads : (hidden : Hidden) (chosen : ChosenSoFar) (joining : Option Joining) (outer : Outer) (terminal : Terminal) (next : State) → after_step hidden chosen joining outer terminal ≡ Some next → text_of_state next ≡ text_of_state (After hidden chosen joining outer) ++ terminal ∷ []
 after_reads hidden chosen joining outer (Mark Slash) next h = reads (WantBrace hidden chosen joining outer) next _ h (simp append_assoc)
 after_reads hidden chosen joining outer (Mark Plus) next h = reads (Want [] (Some (chosen_with chosen hidden)) joining outer) next _ h (simp (append_assoc, append-nil, choice_with_text chosen hidden))
@@ -145,6 +162,7 @@ after_reads hidden chosen joining outer (Mark Less) next h = reads (AtSet (OfCoo
 after_reads hidden chosen joining outer (Mark Equals) next h = names_line_reads hidden chosen joining outer next h
 after_reads hidden chosen joining outer terminal next h = closes_reads (whole_process joining chosen hidden) outer terminal next h ∙ behind_text hidden chosen joining outer (terminal ∷ [])
 
+-- `infty` behind its weight
 weighted_reads : (multiplying : Multiplying) (place : RatePlace) (next : State) → weighted_step multiplying.product multiplying.sign place ≡ Some next → text_of_state next ≡ place_text place ++ (multiplying_text (Some multiplying) ++ Top ∷ [])
 weighted_reads multiplying place next h = go multiplying.product multiplying.sign h
   where
@@ -152,11 +170,13 @@ weighted_reads multiplying place next h = go multiplying.product multiplying.sig
     go (OneFactor Amount) Multiplied h' = reads (AfterTop Weighted place) next _ h' refl
     go _ _ h' = cc
 
+-- `infty` for a whole rate, or behind its weight
 top_reads : (summing : Option Summing) (multiplying : Option Multiplying) (outer : RateOuter) (next : State) → top_step summing multiplying outer ≡ Some next → text_of_state next ≡ text_of_state (WantFactor summing multiplying outer) ++ Top ∷ []
 top_reads None None (Whole place) next h = reads (AfterTop Passive place) next _ h (simp append-nil)
 top_reads None (Some multiplying) (Whole place) next h = weighted_reads multiplying place next h ∙ simp append_assoc
 top_reads _ _ _ next h = cc
 
+-- the start of a factor
 want_factor_reads : (summing : Option Summing) (multiplying : Option Multiplying) (outer : RateOuter) (terminal : Terminal) (next : State) → want_factor_step summing multiplying outer terminal ≡ Some next → text_of_state next ≡ text_of_state (WantFactor summing multiplying outer) ++ terminal ∷ []
 want_factor_reads summing multiplying outer Number next h = reads (AfterFactor Amount summing multiplying outer) next _ h (simp append_assoc)
 want_factor_reads summing multiplying outer Small next h = reads (AfterFactor (Naming Plain) summing multiplying outer) next _ h (simp append_assoc)
@@ -165,11 +185,13 @@ want_factor_reads summing multiplying outer (Mark Opening) next h = reads (WantF
 want_factor_reads summing multiplying outer Top next h = top_reads summing multiplying outer next h
 want_factor_reads summing multiplying outer _ next h = cc
 
+-- what closes a rate
 closes_rate_reads : (rate : Rate) (place : RatePlace) (terminal : Terminal) (next : State) → closes_rate rate place terminal ≡ Some next → text_of_state next ≡ place_text place ++ (rate_spelled rate ++ terminal ∷ [])
 closes_rate_reads rate (OfLine name) (Mark Semicolon) next h = reads (Done (OneLine (RateNamed name rate))) next _ h refl
 closes_rate_reads rate (OfActivity word pending chosen joining outer) (Mark Closing) next h = reads (WantDot word rate pending chosen joining outer) next _ h (simp append_assoc)
 closes_rate_reads rate _ _ next h = cc
 
+-- what closes a sum
 closes_sum_reads : (sum : Sum) (outer : RateOuter) (terminal : Terminal) (next : State) → closes_sum sum outer terminal ≡ Some next → text_of_state next ≡ rate_outer_text outer ++ (sum_spelled sum ++ terminal ∷ [])
 closes_sum_reads sum (Whole place) terminal next h = closes_rate_reads (Computed sum) place terminal next h
 closes_sum_reads sum (InRateBrackets summing multiplying outer) (Mark Closing) next h = reads (AfterFactor (Bracketed sum) summing multiplying outer) next _ h (simp append_assoc)
@@ -179,6 +201,7 @@ closes_sum_reads sum _ _ next h = cc
 behind_sum_text : (factor : Factor) (summing : Option Summing) (multiplying : Option Multiplying) (outer : RateOuter) (behind : List Terminal) → rate_outer_text outer ++ (sum_spelled (whole_sum summing multiplying factor) ++ behind) ≡ text_of_state (AfterFactor factor summing multiplying outer) ++ behind
 behind_sum_text factor summing multiplying outer behind = simp (append_assoc, sum_with_text summing multiplying factor)
 
+-- what stands behind a factor
 after_factor_reads : (factor : Factor) (summing : Option Summing) (multiplying : Option Multiplying) (outer : RateOuter) (terminal : Terminal) (next : State) → after_factor_step factor summing multiplying outer terminal ≡ Some next → text_of_state next ≡ text_of_state (AfterFactor factor summing multiplying outer) ++ terminal ∷ []
 after_factor_reads factor summing multiplying outer (Mark Star) next h = reads (WantFactor summing (Some (record { product = product_with multiplying factor; sign = Multiplied })) outer) next _ h (simp (append_assoc, product_with_text multiplying factor))
 after_factor_reads factor summing multiplying outer (Mark Slash) next h = reads (WantFactor summing (Some (record { product = product_with multiplying factor; sign = Divided })) outer) next _ h (simp (append_assoc, product_with_text multiplying factor))
@@ -186,23 +209,27 @@ after_factor_reads factor summing multiplying outer (Mark Plus) next h = reads (
 after_factor_reads factor summing multiplying outer (Mark Minus) next h = reads (WantFactor (Some (record { sum = whole_sum summing multiplying factor; sign = Subtracted })) None outer) next _ h (simp (append_assoc, append-nil, sum_with_text summing multiplying factor))
 after_factor_reads factor summing multiplying outer terminal next h = closes_sum_reads (whole_sum summing multiplying factor) outer terminal next h ∙ behind_sum_text factor summing multiplying outer (terminal ∷ [])
 
+-- what closes a set
 closes_set_reads : (place : SetPlace) (words : List Word) (terminal : Terminal) (next : State) → closes_set place words terminal ≡ Some next → text_of_state next ≡ set_place_text place ++ (words_spelled words ++ terminal ∷ [])
 closes_set_reads (OfCooperation process outer) words (Mark Greater) next h = reads (set_read (OfCooperation process outer) words) next _ h (simp (append_assoc, append-nil))
 closes_set_reads (OfHiding hidden chosen joining outer) words (Mark ClosingBrace) next h = reads (set_read (OfHiding hidden chosen joining outer) words) next _ h (simp append_assoc)
 closes_set_reads _ words _ next h = cc
 
+-- a word behind a comma
 takes_word_reads : (place : SetPlace) (words : List Word) (terminal : Terminal) (next : State) → HasWord words → takes_word place words terminal ≡ Some next → text_of_state next ≡ text_of_state (WantWord place words) ++ terminal ∷ []
 takes_word_reads place words Small next some h = reads (AfterWord place (words ++ Named Plain ∷ [])) next _ h (simp (append_assoc, words_text words (Named Plain) some))
 takes_word_reads place words Probe next some h = reads (AfterWord place (words ++ Named Probing ∷ [])) next _ h (simp (append_assoc, words_text words (Named Probing) some))
 takes_word_reads place words Tau next some h = reads (AfterWord place (words ++ Internal ∷ [])) next _ h (simp (append_assoc, words_text words Internal some))
 takes_word_reads place words _ next some h = cc
 
+-- the first word of a set, or its end
 at_set_reads : (place : SetPlace) (terminal : Terminal) (next : State) → at_set_step place terminal ≡ Some next → text_of_state next ≡ set_place_text place ++ terminal ∷ []
 at_set_reads place Small next h = reads (AfterWord place (Named Plain ∷ [])) next _ h refl
 at_set_reads place Probe next h = reads (AfterWord place (Named Probing ∷ [])) next _ h refl
 at_set_reads place Tau next h = reads (AfterWord place (Internal ∷ [])) next _ h refl
 at_set_reads place terminal next h = closes_set_reads place [] terminal next h
 
+-- a comma, or what closes the set
 after_word_reads : (place : SetPlace) (words : List Word) (terminal : Terminal) (next : State) → after_word_step place words terminal ≡ Some next → text_of_state next ≡ text_of_state (AfterWord place words) ++ terminal ∷ []
 after_word_reads place words (Mark Comma) next h = reads (WantWord place words) next _ h (simp append_assoc)
 after_word_reads place words terminal next h = closes_set_reads place words terminal next h ∙ simp append_assoc
