@@ -1,23 +1,24 @@
 -- What the readers of items answer, and why a token is refused.
-use Rattle.std.specs.Prelude.{◌≡◌, ◌≢◌, ℕ, ◌+◌, List, [], ◌∷◌, ◌++◌, drop, slice_get, Some, Result, Ok, Err}
+use Rattle.std.specs.Prelude.{◌≡◌, ◌≢◌, ℕ, ◌+◌, ◌<◌, ◌≤◌, length, List, [], ◌∷◌, ◌++◌, drop, slice_get, Some, Result, Ok, Err}
 use Rattle.pepa_lexer.specs.declared.kinds.Token.{Token}
 use Rattle.pepa_lexer.specs.declared.kinds.Sign.TheVariants.{Equals, Semicolon, Closing, Star, Less, OpeningBracket}
 use Rattle.pepa_reader.specs.declared.terminal.Terminal.{Terminal}
 use Rattle.pepa_reader.specs.declared.terminal.Terminal.TheVariants.{Probe, Capital, Mark, End}
-use Rattle.pepa_reader.specs.declared.terminal.Text.{Text}
 use Rattle.pepa_reader.specs.declared.fault.FileFault.{FileFault}
 use Rattle.pepa_reader.specs.declared.fault.FileFault.TheVariants.{Expected, TooDeep, Array, Wildcard, Unsupported}
 use Rattle.pepa_reader.specs.declared.fault.FileFault.TheVariants as faults
 use Rattle.pepa_reader.specs.declared.fault.PartFault.{PartFault}
 use Rattle.pepa_reader.specs.declared.fault.PartFault.TheVariants.{Refused, Memory}
-use Rattle.pepa_reader.specs.declared.items.Item.{Item, Rate, Process, System}
+use Rattle.pepa_reader.specs.declared.items.Item.{Item}
+use Rattle.pepa_reader.specs.declared.items.Item.TheVariants.{Rate, Process, System}
 use Rattle.pepa_reader.specs.declared.items.ItemRead.{ItemRead}
 use Rattle.pepa_reader.specs.Grammar as g
 use Rattle.pepa_reader.specs.Grammar.{line_spelled, item_spelled}
 use Rattle.pepa_reader.specs.Trees.{rate_node_of, process_node_of, rate_tree, process_tree, rate_line_of, process_line_of}
 use Rattle.pepa_reader.specs.FileAnswers.{most_tokens, StandsAt, Tells, IsWildcard}
 use Rattle.pepa_reader.specs.Machine.{start}
-use Rattle.pepa_reader.specs.Reading.{kinds_of, Begins, IsSpelled, Stops}
+use Rattle.pepa_reader.specs.Reading.{Begins, IsSpelled, Stops}
+use Rattle.pepa_reader.specs.Terminals.{terminals}
 
 -- a constant and a `=`
 abbrev pub IsLineHead : List Terminal → ℕ → ℕ → Type 0
@@ -26,9 +27,6 @@ IsLineHead kinds at next = IsSpelled kinds at next (Capital ∷ Mark Equals ∷ 
 abbrev pub NoLineHead : List Terminal → Type 0
 NoLineHead (Capital ∷ Mark Equals ∷ more) = ⊥
 NoLineHead _ = Unit {0}
-
-pub record IsRateLine (kinds : List Terminal) (at next : ℕ) (line : g.Line) : Type 0 where
-  pub spelled : IsSpelled kinds at next (line_spelled line)
 
 -- the item is this one of the grammar
 abbrev pub IsItem : ℕ → Item → g.Item → Type 0
@@ -52,17 +50,35 @@ abbrev pub IsProbeLine : List Terminal → ℕ → ℕ → Type 0
 IsProbeLine kinds start i = (i ≡ start + 1) × StandsAt kinds start Probe
 
 -- the token at the index, and its place
-abbrev pub TellsAt : Text → FileFault → ℕ → Type 0
-TellsAt text fault i = (token : Token) × (slice_get text.tokens.now i ≡ Some token) × Tells fault token.place
+abbrev pub TellsAt : List Token → FileFault → ℕ → Type 0
+TellsAt tokens fault i = (token : Token) × (slice_get tokens i ≡ Some token) × Tells fault token.place
 
 -- why the token at i was refused, in the item that begins at `start`
-abbrev pub IsCause : Text → ℕ → ℕ → FileFault → Type 0
-IsCause text start i (Unsupported place) = IsProbeLine (kinds_of text) start i × TellsAt text (Unsupported place) start
-IsCause text start i (TooDeep place) = (i ≡ start + most_tokens) × TellsAt text (TooDeep place) i
-IsCause text start i (Array place) =
-    (i ≢ start + most_tokens) × (¬ IsProbeLine (kinds_of text) start i) × StandsAt (kinds_of text) i (Mark OpeningBracket) × TellsAt text (Array place) i
-IsCause text start i (Wildcard place) =
-    (i ≢ start + most_tokens) × (¬ IsProbeLine (kinds_of text) start i) × IsWildcard (kinds_of text) i × TellsAt text (Wildcard place) i
-IsCause text start i (Expected place) =
-    (i ≢ start + most_tokens) × (¬ IsProbeLine (kinds_of text) start i) × (¬ StandsAt (kinds_of text) i (Mark OpeningBracket)) × (¬ IsWildcard (kinds_of text) i) × TellsAt text (Expected place) i
-IsCause text start i faults.Memory = ⊥
+abbrev pub IsCause : List ℕ → List Token → ℕ → ℕ → FileFault → Type 0
+IsCause input tokens start i (Unsupported place) = IsProbeLine (terminals input tokens) start i × TellsAt tokens (Unsupported place) start
+IsCause input tokens start i (TooDeep place) = (i ≡ start + most_tokens) × TellsAt tokens (TooDeep place) i
+IsCause input tokens start i (Array place) =
+    (i ≢ start + most_tokens) × (¬ IsProbeLine (terminals input tokens) start i) × StandsAt (terminals input tokens) i (Mark OpeningBracket) × TellsAt tokens (Array place) i
+IsCause input tokens start i (Wildcard place) =
+    (i ≢ start + most_tokens) × (¬ IsProbeLine (terminals input tokens) start i) × IsWildcard (terminals input tokens) i × TellsAt tokens (Wildcard place) i
+IsCause input tokens start i (Expected place) =
+    (i ≢ start + most_tokens) × (¬ IsProbeLine (terminals input tokens) start i) × (¬ StandsAt (terminals input tokens) i (Mark OpeningBracket)) × (¬ IsWildcard (terminals input tokens) i) × TellsAt tokens (Expected place) i
+IsCause input tokens start i faults.Memory = ⊥
+
+-- the last terminal is the end
+abbrev pub IsEnded : List Terminal → Type 0
+IsEnded kinds = (front : List Terminal) × (kinds ≡ front ++ End ∷ [])
+
+-- the machine stops at i, at most 2,048 terminals behind the item's start, for the fault's cause
+pub record IsItemFault (input : List ℕ) (tokens : List Token) (at : ℕ) (fault : FileFault) : Type 0 where
+  pub i : ℕ
+  pub stops : Stops (terminals input tokens) at i start
+  pub within : i < length tokens
+  pub few : i ≤ at + most_tokens
+  pub cause : IsCause input tokens at i fault
+
+-- an item of at most 2,048 terminals, or why there is none
+abbrev pub ReadsItemAt : List ℕ → List Token → ℕ → Result ItemRead FileFault → Type 0
+ReadsItemAt input tokens at (Ok read) = IsItemRead (terminals input tokens) at read × (read.next ≤ at + most_tokens)
+ReadsItemAt input tokens at (Err faults.Memory) = Unit {0}
+ReadsItemAt input tokens at (Err fault) = IsItemFault input tokens at fault

@@ -3,7 +3,8 @@
 ghost use Rattle.std.specs.Prelude.{◌≡◌, ◌+◌, ◌<◌, ◌≤◌, length, drop, take};
 ghost use Rattle.pepa_lexer.specs.TokenLists.{IsTokens};
 ghost use Rattle.pepa_reader.specs.FileAnswers.{ReadsFile};
-ghost use Rattle.pepa_reader.specs.ItemReading.{IsCause};
+ghost use Rattle.pepa_reader.specs.Terminals.{terminals};
+ghost use Rattle.pepa_reader.specs.ItemReading.{IsCause, IsEnded, ReadsItemAt};
 
 use crate::fault::{FileFault, PartFault};
 use crate::items::{Item, ItemRead};
@@ -20,7 +21,7 @@ const MOST_TOKENS: usize = 2048;
 fn cause(text: &Text, start: usize, i: usize) -> FileFault
     requires behind { start ≤ i }
     requires within { i < length text.now.tokens.now }
-    ensures { IsCause text.now start i result }
+    ensures { IsCause text.now.input.now text.now.tokens.now start i result }
 {
     let place = text.tokens[i].place;
     let begun = i - start;
@@ -42,6 +43,30 @@ fn cause(text: &Text, start: usize, i: usize) -> FileFault
     FileFault::Expected(place)
 }
 
+/// The item that begins at the index, of which no more than 2,048 tokens are read.
+fn item_at(
+    alloc: Global,
+    tokens: &[Token],
+    input: &[u8],
+    at: usize,
+) -> Result<ItemRead, FileFault>
+    requires within { at < length tokens.now }
+    requires ended { IsEnded (terminals input.now tokens.now) }
+    ensures { ReadsItemAt input.now tokens.now at result }
+{
+    let room = (tokens.len() - at).min(MOST_TOKENS);
+    let (few, _) = tokens.split_at(at + room);
+    let text = Text { tokens: few, input };
+    match text.item(alloc, at) {
+        Ok(read) => Ok(read),
+        Err(PartFault::Refused(i)) => {
+            let whole = Text { tokens, input };
+            Err(cause(&whole, at, i))
+        }
+        Err(PartFault::Memory) => Err(FileFault::Memory),
+    }
+}
+
 /// Reads the tokens of a text as a file.
 ///
 /// The tree's nodes hold the indices of tokens. `tokens` are those of `input`. A refusal tells the place of the first token
@@ -56,39 +81,18 @@ pub fn read_file(alloc: Global, tokens: &[Token], input: &[u8]) -> Result<FileTr
     let mut processes = Items::new(alloc);
     let mut at = 0;
     loop {
-        let limit = tokens.len().min(at + MOST_TOKENS);
-        let (few, _) = tokens.split_at(limit);
-        let text = Text { tokens: few, input };
-        match text.item(alloc, at) {
-            Ok(ItemRead {
-                item: Item::Rate(line),
-                next,
-            }) => {
-                rates.push(line)?;
-                at = next;
-            }
-            Ok(ItemRead {
-                item: Item::Process(line),
-                next,
-            }) => {
-                processes.push(line)?;
-                at = next;
-            }
-            Ok(ItemRead {
-                item: Item::System(system),
-                ..
-            }) => {
+        let ItemRead { item, next } = item_at(alloc, tokens, input, at)?;
+        at = next;
+        match item {
+            Item::Rate(line) => rates.push(line)?,
+            Item::Process(line) => processes.push(line)?,
+            Item::System(system) => {
                 return Ok(FileTree {
                     rates,
                     processes,
                     system,
                 });
             }
-            Err(PartFault::Refused(i)) => {
-                let whole = Text { tokens, input };
-                return Err(cause(&whole, at, i));
-            }
-            Err(PartFault::Memory) => return Err(FileFault::Memory),
         }
     }
 }

@@ -28,7 +28,7 @@ pub(crate) struct ItemRead {
     pub next: usize,
 }
 
-impl Text<'_> {
+impl Text<'_, '_> {
     /// The rate line whose name stands at the index, and the index behind the name.
     fn rate_line(&self, alloc: Global, at: usize, equals: usize) -> Result<ItemRead, PartFault>
         requires { (name : SmallName) × IsAt (kinds_of self.now) at equals (small_spelled name) }

@@ -27,7 +27,7 @@ pub(crate) struct ProcessRead {
     pub next: usize,
 }
 
-impl Text<'_> {
+impl Text<'_, '_> {
     /// The activity whose `(` stands at the index and whose word stands before `comma`, up to its point.
     fn activity(&self, alloc: Global, at: usize, comma: usize) -> Result<ActivityRead, PartFault>
         requires { (word : Word) × IsSpelled (kinds_of self.now) at comma (Terminal.Mark Sign.Opening ∷ word_spelled word ∷ []) }

@@ -18,7 +18,7 @@ pub(crate) struct RateRead {
     pub next: usize,
 }
 
-impl Text<'_> {
+impl Text<'_, '_> {
     /// The index behind the `+` or `-` at the index, if there is one.
     fn sum_sign(&self, at: usize) -> Option<usize>
         ensures { MatchOption result ((¬ Begins (drop at (kinds_of self.now)) (Terminal.Mark Sign.Plus)) × (¬ Begins (drop at (kinds_of self.now)) (Terminal.Mark Sign.Minus))) (λ next. (sign : SumSign) × IsAt (kinds_of self.now) at next (sum_sign_spelled sign)) }

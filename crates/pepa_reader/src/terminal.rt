@@ -29,9 +29,9 @@ pub enum Terminal {
 
 /// Tokens and the text that they are of.
 #[derive(Clone, Copy)]
-pub(crate) struct Text<'a> {
-    pub tokens: &'a [Token],
-    pub input: &'a [u8],
+pub(crate) struct Text<'t, 'i> {
+    pub tokens: &'t [Token],
+    pub input: &'i [u8],
 }
 
 /// The bytes of a token.
@@ -108,7 +108,7 @@ fn is_same(left: Terminal, right: Terminal) -> bool
     }
 }
 
-impl Text<'_> {
+impl Text<'_, '_> {
     /// Whether this terminal stands at the index.
     pub(crate) fn comes(&self, at: usize, terminal: Terminal) -> bool
         ensures answer { MatchBool result (Begins (drop at (kinds_of self.now)) terminal) (¬ Begins (drop at (kinds_of self.now)) terminal) }

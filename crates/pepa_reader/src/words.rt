@@ -17,7 +17,7 @@ pub(crate) struct WordsRead {
     pub next: usize,
 }
 
-impl Text<'_> {
+impl Text<'_, '_> {
     /// The words of a set, from behind the sign that opens it to the one that closes it.
     pub(crate) fn words(&self, alloc: Global, at: usize, close: Terminal) -> Result<WordsRead, PartFault>
         requires { (close ≡ Terminal.Mark Sign.Greater) ⊎ (close ≡ Terminal.Mark Sign.ClosingBrace) }
