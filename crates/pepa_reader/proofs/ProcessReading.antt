@@ -243,6 +243,9 @@ cooperation_fails kinds at read (Refused i) is cooperation = λ outer admits.
     stops_behind (Want [] None None outer) (behind_process is.process outer) is.spelled (process_runs is.process outer) (cooperation is.process outer)
 cooperation_fails kinds at read Memory is cooperation = tt
 
+pub cooperation_found : (kinds : List Terminal) (at : ℕ) (found : Option WordsRead) (words : WordsRead) → found ≡ Some words → ReadsCooperation kinds at (Ok found) → IsCooperation kinds at words
+cooperation_found kinds at found words e h = rw e at h
+
 pub right_fails : (kinds : List Terminal) (at : ℕ) (read : ProcessRead) (words : WordsRead) (fault : PartFault) → IsProcess kinds at read → IsCooperation kinds read.next words → ReadsChoice kinds words.next (Err fault) → ReadsProcess kinds at (Err fault)
 right_fails kinds at read words (Refused i) is cooperation choice = λ outer admits.
     let next : Option Joining = Some (record { process = is.process; coop = cooperation.coop }) in
