@@ -5,3 +5,6 @@ pub mod MachineEnds
 pub mod ItemLaws
 pub mod Spelled
 pub mod RateReading
+pub mod ProcessStates
+pub mod WordReading
+pub mod ProcessReading
