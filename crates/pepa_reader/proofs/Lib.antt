@@ -5,3 +5,5 @@ pub mod MachineEnds
 pub mod ItemLaws
 pub mod Spelled
 pub mod RateReading
+pub mod Places
+pub mod LineReading

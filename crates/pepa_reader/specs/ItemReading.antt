@@ -47,23 +47,23 @@ ReadsItem kinds at (Err Memory) = Unit {0}
 
 -- `probe` alone stands before i in its item
 abbrev pub IsProbeLine : List Terminal → ℕ → ℕ → Type 0
-IsProbeLine kinds start i = (i ≡ start + 1) × StandsAt kinds start Probe
+IsProbeLine kinds at i = (i ≡ at + 1) × StandsAt kinds at Probe
 
 -- the token at the index, and its place
 abbrev pub TellsAt : List Token → FileFault → ℕ → Type 0
 TellsAt tokens fault i = (token : Token) × (slice_get tokens i ≡ Some token) × Tells fault token.place
 
--- why the token at i was refused, in the item that begins at `start`
+-- why the token at i was refused, in the item that begins at `at`
 abbrev pub IsCause : List ℕ → List Token → ℕ → ℕ → FileFault → Type 0
-IsCause input tokens start i (Unsupported place) = IsProbeLine (terminals input tokens) start i × TellsAt tokens (Unsupported place) start
-IsCause input tokens start i (TooDeep place) = (i ≡ start + most_tokens) × TellsAt tokens (TooDeep place) i
-IsCause input tokens start i (Array place) =
-    (i ≢ start + most_tokens) × (¬ IsProbeLine (terminals input tokens) start i) × StandsAt (terminals input tokens) i (Mark OpeningBracket) × TellsAt tokens (Array place) i
-IsCause input tokens start i (Wildcard place) =
-    (i ≢ start + most_tokens) × (¬ IsProbeLine (terminals input tokens) start i) × IsWildcard (terminals input tokens) i × TellsAt tokens (Wildcard place) i
-IsCause input tokens start i (Expected place) =
-    (i ≢ start + most_tokens) × (¬ IsProbeLine (terminals input tokens) start i) × (¬ StandsAt (terminals input tokens) i (Mark OpeningBracket)) × (¬ IsWildcard (terminals input tokens) i) × TellsAt tokens (Expected place) i
-IsCause input tokens start i faults.Memory = ⊥
+IsCause input tokens at i (Unsupported place) = IsProbeLine (terminals input tokens) at i × TellsAt tokens (Unsupported place) at
+IsCause input tokens at i (TooDeep place) = (i ≡ at + most_tokens) × TellsAt tokens (TooDeep place) i
+IsCause input tokens at i (Array place) =
+    (i ≢ at + most_tokens) × (¬ IsProbeLine (terminals input tokens) at i) × StandsAt (terminals input tokens) i (Mark OpeningBracket) × TellsAt tokens (Array place) i
+IsCause input tokens at i (Wildcard place) =
+    (i ≢ at + most_tokens) × (¬ IsProbeLine (terminals input tokens) at i) × IsWildcard (terminals input tokens) i × TellsAt tokens (Wildcard place) i
+IsCause input tokens at i (Expected place) =
+    (i ≢ at + most_tokens) × (¬ IsProbeLine (terminals input tokens) at i) × (¬ StandsAt (terminals input tokens) i (Mark OpeningBracket)) × (¬ IsWildcard (terminals input tokens) i) × TellsAt tokens (Expected place) i
+IsCause input tokens at i faults.Memory = ⊥
 
 -- the last terminal is the end
 abbrev pub IsEnded : List Terminal → Type 0
