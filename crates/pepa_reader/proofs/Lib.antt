@@ -7,3 +7,7 @@ pub mod Spelled
 pub mod RateReading
 pub mod Places
 pub mod LineReading
+pub mod TokenEnds
+pub mod FrontReading
+pub mod FaultReading
+pub mod FileReading

@@ -1,7 +1,8 @@
 -- What the readers of items answer, and why a token is refused.
 use Rattle.std.specs.Prelude.{◌≡◌, ◌≢◌, ℕ, ◌+◌, ◌<◌, ◌≤◌, length, List, [], ◌∷◌, ◌++◌, drop, slice_get, Some, Result, Ok, Err}
+use Rattle.std.specs.List.{AllByRecursion}
 use Rattle.pepa_lexer.specs.declared.kinds.Token.{Token}
-use Rattle.pepa_lexer.specs.declared.kinds.Sign.TheVariants.{Equals, Semicolon, Closing, Star, Less, OpeningBracket}
+use Rattle.pepa_lexer.specs.declared.kinds.Sign.TheVariants.{Equals, OpeningBracket}
 use Rattle.pepa_reader.specs.declared.terminal.Terminal.{Terminal}
 use Rattle.pepa_reader.specs.declared.terminal.Terminal.TheVariants.{Probe, Capital, Mark, End}
 use Rattle.pepa_reader.specs.declared.fault.FileFault.{FileFault}
@@ -16,8 +17,8 @@ use Rattle.pepa_reader.specs.Grammar as g
 use Rattle.pepa_reader.specs.Grammar.{line_spelled, item_spelled}
 use Rattle.pepa_reader.specs.Trees.{rate_node_of, process_node_of, rate_tree, process_tree, rate_line_of, process_line_of}
 use Rattle.pepa_reader.specs.FileAnswers.{most_tokens, StandsAt, Tells, IsWildcard}
-use Rattle.pepa_reader.specs.Machine.{start}
-use Rattle.pepa_reader.specs.Reading.{Begins, IsSpelled, Stops}
+use Rattle.pepa_reader.specs.Machine.{State, IsUndone, run, start}
+use Rattle.pepa_reader.specs.Reading.{IsSpelled, Refuses, Stops}
 use Rattle.pepa_reader.specs.Terminals.{terminals}
 
 -- a constant and a `=`
@@ -65,14 +66,20 @@ IsCause input tokens at i (Expected place) =
     (i ≢ at + most_tokens) × (¬ IsProbeLine (terminals input tokens) at i) × (¬ StandsAt (terminals input tokens) i (Mark OpeningBracket)) × (¬ IsWildcard (terminals input tokens) i) × TellsAt tokens (Expected place) i
 IsCause input tokens at i faults.Memory = ⊥
 
--- the last terminal is the end
+-- the last terminal is the end, and no other is
 abbrev pub IsEnded : List Terminal → Type 0
-IsEnded kinds = (front : List Terminal) × (kinds ≡ front ++ End ∷ [])
+IsEnded kinds = (front : List Terminal) × (kinds ≡ front ++ End ∷ []) × AllByRecursion (λ terminal. terminal ≢ End) front
 
--- the machine stops at i, at most 2,048 terminals behind the item's start, for the fault's cause
+-- from the item's start on the machine comes to i, which is at most 2,048 terminals behind; where it is fewer, it refuses
+-- what stands there
 pub record IsItemFault (input : List ℕ) (tokens : List Token) (at : ℕ) (fault : FileFault) : Type 0 where
   pub i : ℕ
-  pub stops : Stops (terminals input tokens) at i start
+  pub state : State
+  pub text : List Terminal
+  pub spelled : IsSpelled (terminals input tokens) at i text
+  pub ran : run start text ≡ Some state
+  pub undone : IsUndone state
+  pub refused : i ≢ at + most_tokens → Refuses state (drop i (terminals input tokens))
   pub within : i < length tokens
   pub few : i ≤ at + most_tokens
   pub cause : IsCause input tokens at i fault
