@@ -11,3 +11,6 @@ pub mod TokenEnds
 pub mod FrontReading
 pub mod FaultReading
 pub mod FileReading
+pub mod ProcessStates
+pub mod WordReading
+pub mod ProcessReading
