@@ -14,3 +14,4 @@ pub mod FileReading
 pub mod ProcessStates
 pub mod WordReading
 pub mod ProcessReading
+pub mod SystemReading

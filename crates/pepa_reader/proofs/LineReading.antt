@@ -2,20 +2,23 @@
 use Rattle.std.proofs.Common.{◌≡◌, ℕ, ◌+◌, List, [], ◌∷◌, ◌++◌, length, drop, refl, sym, ap, ◌∙◌, Some, None, Ok, Err, arith}
 use Rattle.pepa_lexer.specs.declared.kinds.Sign.TheVariants.{Equals, Semicolon}
 use Rattle.pepa_reader.specs.declared.terminal.Terminal.{Terminal}
-use Rattle.pepa_reader.specs.declared.terminal.Terminal.TheVariants.{Mark}
+use Rattle.pepa_reader.specs.declared.terminal.Terminal.TheVariants.{Capital, Mark}
 use Rattle.pepa_reader.specs.declared.fault.PartFault.{PartFault}
 use Rattle.pepa_reader.specs.declared.fault.PartFault.TheVariants.{Refused, Memory}
 use Rattle.pepa_reader.specs.declared.rates.RateRead.{RateRead}
 use Rattle.pepa_reader.specs.declared.trees.RateLine.{RateLine}
 use Rattle.pepa_reader.specs.declared.items.Item.TheVariants.{Rate}
-use Rattle.pepa_reader.specs.Grammar.{SmallName, Plain, Probing, small_spelled, OneLine, RateNamed}
-use Rattle.pepa_reader.specs.Trees.{rate_node_of, rate_tree}
-use Rattle.pepa_reader.specs.Machine.{Whole, OfLine, State, WantEquals, WantFactor, step, run, start, behind_rate}
-use Rattle.pepa_reader.specs.Reading.{Begins, IsSpelled, IsAt, Expects, Refuses, IsRate, ReadsRate}
-use Rattle.pepa_reader.specs.ItemReading.{ReadsItem, IsItemRead}
+use Rattle.pepa_reader.specs.declared.items.Item.TheVariants as items
+use Rattle.pepa_reader.specs.declared.processes.ProcessRead.{ProcessRead}
+use Rattle.pepa_reader.specs.Grammar.{SmallName, Plain, Probing, small_spelled, OneLine, RateNamed, ProcessNamed}
+use Rattle.pepa_reader.specs.Trees.{rate_tree, process_tree}
+use Rattle.pepa_reader.specs.Machine.{InLine, Whole, OfLine, Want, WantEquals, WantFactor, step, run, start, behind_rate, behind_process}
+use Rattle.pepa_reader.specs.Reading.{Begins, IsSpelled, IsAt, Expects, Refuses, IsRate, ReadsRate, EndsProcess, IsProcess, ReadsProcess}
+use Rattle.pepa_reader.specs.ItemReading.{IsLineHead, ReadsItem, IsItemRead}
 use Rattle.pepa_reader.proofs.Spelled.{spelled_append, stops_here, stops_behind}
-use Rattle.pepa_reader.proofs.MachineRuns.{rate_runs}
+use Rattle.pepa_reader.proofs.MachineRuns.{rate_runs, process_runs}
 use Rattle.pepa_reader.proofs.RateReading.{refuses_behind_rate, undone_behind_rate}
+use Rattle.pepa_reader.proofs.ProcessStates.{refuses_behind_process, undone_behind_process}
 
 -- ---- rate lines
 
@@ -60,3 +63,27 @@ is_rate_line kinds at equals from next name read named is_equals rate closing =
     record { item = OneLine (RateNamed name rate.rate);
              spelled = spelled_append named.spelled (spelled_append is_equals.spelled (spelled_append rate.spelled closing.spelled));
              tree = (refl, rate.tree ∙ ap (λ n. rate_tree n rate.rate) front) }
+
+-- ---- process lines
+
+head_runs : run start (Capital ∷ Mark Equals ∷ []) ≡ Some (Want [] None None InLine)
+unfolding run step
+head_runs = refl
+
+pub line_process_fails : (kinds : List Terminal) (at from : ℕ) (fault : PartFault) → IsLineHead kinds at from → ReadsProcess kinds from (Err fault) → ReadsItem kinds at (Err fault)
+line_process_fails kinds at from (Refused i) head process = stops_behind start (Want [] None None InLine) head head_runs (process InLine tt)
+line_process_fails kinds at from Memory head process = tt
+
+pub process_line_stays : (kinds : List Terminal) (at from : ℕ) (read : ProcessRead) (fault : PartFault) → IsLineHead kinds at from → IsProcess kinds from read → EndsProcess (drop read.next kinds) → Expects kinds read.next (Mark Semicolon) (Err fault) → ReadsItem kinds at (Err fault)
+process_line_stays kinds at from read (Refused i) head process ends e =
+    rw e.0 (stops_behind start (Want [] None None InLine) head head_runs
+    (stops_behind (Want [] None None InLine) (behind_process process.process InLine) process.spelled (process_runs process.process InLine)
+    (stops_here (undone_behind_process process.process InLine) (refuses_behind_process process.process InLine (drop read.next kinds) ends e.1))))
+process_line_stays kinds at from read Memory head process ends e = tt
+
+pub is_process_line : (kinds : List Terminal) (at from next : ℕ) (read : ProcessRead) → IsLineHead kinds at from → IsProcess kinds from read → IsAt kinds read.next next (Mark Semicolon) → IsItemRead kinds at (record { item = items.Process (record { at = at; body = read.tree }); next = next })
+is_process_line kinds at from next read head process closing =
+    let front : from ≡ at + 2 = omega (arith, head.index) in
+    record { item = OneLine (ProcessNamed process.process);
+             spelled = spelled_append head (spelled_append process.spelled closing.spelled);
+             tree = (refl, process.tree ∙ ap (λ n. process_tree n process.process) front) }

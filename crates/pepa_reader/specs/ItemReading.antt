@@ -1,8 +1,8 @@
 -- What the readers of items answer, and why a token is refused.
-use Rattle.std.specs.Prelude.{◌≡◌, ◌≢◌, ℕ, ◌+◌, ◌<◌, ◌≤◌, length, List, [], ◌∷◌, ◌++◌, drop, slice_get, Some, Result, Ok, Err}
+use Rattle.std.specs.Prelude.{◌≡◌, ◌≢◌, ℕ, ◌+◌, ◌<◌, ◌≤◌, ◌⊎◌, length, List, [], ◌∷◌, ◌++◌, drop, slice_get, Some, Result, Ok, Err}
 use Rattle.std.specs.List.{AllByRecursion}
 use Rattle.pepa_lexer.specs.declared.kinds.Token.{Token}
-use Rattle.pepa_lexer.specs.declared.kinds.Sign.TheVariants.{Equals, OpeningBracket}
+use Rattle.pepa_lexer.specs.declared.kinds.Sign.TheVariants.{Equals, Semicolon, OpeningBracket}
 use Rattle.pepa_reader.specs.declared.terminal.Terminal.{Terminal}
 use Rattle.pepa_reader.specs.declared.terminal.Terminal.TheVariants.{Probe, Capital, Mark, End}
 use Rattle.pepa_reader.specs.declared.fault.FileFault.{FileFault}
@@ -14,11 +14,11 @@ use Rattle.pepa_reader.specs.declared.items.Item.{Item}
 use Rattle.pepa_reader.specs.declared.items.Item.TheVariants.{Rate, Process, System}
 use Rattle.pepa_reader.specs.declared.items.ItemRead.{ItemRead}
 use Rattle.pepa_reader.specs.Grammar as g
-use Rattle.pepa_reader.specs.Grammar.{line_spelled, item_spelled}
-use Rattle.pepa_reader.specs.Trees.{rate_node_of, process_node_of, rate_tree, process_tree, rate_line_of, process_line_of}
+use Rattle.pepa_reader.specs.Grammar.{ending_spelled, item_spelled}
+use Rattle.pepa_reader.specs.Trees.{rate_node_of, process_node_of, rate_tree, process_tree}
 use Rattle.pepa_reader.specs.FileAnswers.{most_tokens, StandsAt, Tells, IsWildcard}
 use Rattle.pepa_reader.specs.Machine.{State, IsUndone, run, start}
-use Rattle.pepa_reader.specs.Reading.{IsSpelled, Refuses, Stops}
+use Rattle.pepa_reader.specs.Reading.{Begins, IsSpelled, IsAt, Refuses, Stops}
 use Rattle.pepa_reader.specs.Terminals.{terminals}
 
 -- a constant and a `=`
@@ -28,6 +28,13 @@ IsLineHead kinds at next = IsSpelled kinds at next (Capital ∷ Mark Equals ∷ 
 abbrev pub NoLineHead : List Terminal → Type 0
 NoLineHead (Capital ∷ Mark Equals ∷ more) = ⊥
 NoLineHead _ = Unit {0}
+
+-- the end of a system, or neither the end of the text nor a `;`, or a `;` without the end
+abbrev pub ReadsEnding : List Terminal → ℕ → Result ℕ PartFault → Type 0
+ReadsEnding kinds at (Ok next) = (ending : g.Ending) × IsSpelled kinds at next (ending_spelled ending)
+ReadsEnding kinds at (Err (Refused i)) =
+    ((i ≡ at) × (¬ Begins (drop at kinds) End) × (¬ Begins (drop at kinds) (Mark Semicolon))) ⊎ (IsAt kinds at i (Mark Semicolon) × (¬ Begins (drop i kinds) End))
+ReadsEnding kinds at (Err Memory) = ⊥
 
 -- the item is this one of the grammar
 abbrev pub IsItem : ℕ → Item → g.Item → Type 0
