@@ -1,13 +1,19 @@
 -- What is read of the first tokens is read of them all.
 use Rattle.std.proofs.Common.{◌≡◌, ◌≢◌, ℕ, zero, suc, ◌+◌, ◌-◌, ◌<◌, ◌≤◌, min, List, [], ◌∷◌, ◌++◌, length, map, take, drop, refl, sym, ap, subst, ◌∙◌, append_assoc, append-nil, length-append, arith, Some, None}
 use Rattle.std.specs.List.{AllByRecursion}
-use Rattle.std.proofs.lemmas.List.{take-append-drop, length-drop, length-take-le, length-map}
+use Rattle.std.proofs.lemmas.List.{take-append-drop, length-drop, length-take-le, length-map, take-map}
 use Rattle.std.proofs.Math.ListN.{drop_of_length-le}
 use Rattle.pepa_reader.specs.declared.terminal.Terminal.{Terminal}
 use Rattle.pepa_reader.specs.declared.terminal.Terminal.TheVariants.{End}
 use Rattle.pepa_reader.specs.Machine.{State, IsUndone, step, run, start}
-use Rattle.pepa_reader.specs.Reading.{IsSpelled, Refuses}
-use Rattle.pepa_reader.specs.ItemReading.{IsEnded}
+use Rattle.pepa_reader.specs.Grammar.{item_spelled}
+use Rattle.pepa_reader.specs.FileAnswers.{most_tokens}
+use Rattle.pepa_reader.specs.Terminals.{terminals, terminal_of}
+use Rattle.pepa_reader.specs.Reading.{IsSpelled, Refuses, Stops}
+use Rattle.pepa_reader.specs.ItemReading.{IsEnded, IsItemRead, IsCause, IsItemFault}
+use Rattle.pepa_reader.specs.declared.items.ItemRead.{ItemRead}
+use Rattle.pepa_reader.specs.declared.fault.FileFault.{FileFault}
+use Rattle.pepa_lexer.specs.declared.kinds.Token.{Token}
 use Rattle.pepa_reader.proofs.ItemLaws.{no_end_inside}
 
 -- what stands behind an index in a front, and behind the front
@@ -51,3 +57,44 @@ stops_inside kinds at i text state ended within h ran undone = omega (arith, λ 
     inside = omega (arith, ap length ended.1, length-append ended.0 (End ∷ []))
     ran_to_end : length kinds ≤ i → run start (drop at ended.0 ++ End ∷ []) ≡ Some state
     ran_to_end past = ap (run start) (sym (drop_in_left ended.0 (End ∷ []) at inside) ∙ ap (drop at) (sym ended.1) ∙ h.whole ∙ ap (λ l. text ++ l) (drop_of_length-le kinds past) ∙ append-nil text) ∙ ran
+
+-- ---- what is read of the first tokens
+
+front_kinds : (input : List ℕ) (tokens few : List Token) (n : ℕ) → few ≡ take n tokens → terminals input few ≡ take n (terminals input tokens)
+front_kinds input tokens few n e = ap (terminals input) e ∙ sym (take-map (terminal_of input) n tokens)
+
+kinds_len : (input : List ℕ) (tokens : List Token) → length (terminals input tokens) ≡ length tokens
+kinds_len input tokens = length-map tokens (terminal_of input)
+
+pub item_in_front : (input : List ℕ) (tokens few : List Token) (at n : ℕ) (read : ItemRead) → few ≡ take n tokens → at ≤ n → n ≤ length tokens → n ≤ at + most_tokens → IsItemRead (terminals input few) at read → IsItemRead (terminals input tokens) at read × (read.next ≤ at + most_tokens)
+item_in_front input tokens few at n read front within short room h =
+    let kinds = terminals input tokens in
+    let spelled = subst (λ l. IsSpelled l at read.next (item_spelled h.item)) (front_kinds input tokens few n front) h.spelled in
+    let behind : read.next ≤ n = ends_in_front kinds n at read.next (item_spelled h.item) within (rw (kinds_len input tokens) short) spelled in
+    (record { item = h.item; spelled = spelled_in_front kinds n at read.next (item_spelled h.item) within behind spelled; tree = h.tree }, omega arith)
+
+pub stop_in_front : (input : List ℕ) (tokens few : List Token) (at n i : ℕ) → few ≡ take n tokens → at ≤ n → n ≤ length tokens → at < length tokens → IsEnded (terminals input tokens) → Stops (terminals input few) at i start → (i ≤ n) × (i < length tokens)
+stop_in_front input tokens few at n i front within short inside ended h =
+    let kinds = terminals input tokens in
+    let len = kinds_len input tokens in
+    let spelled = subst (λ l. IsSpelled l at i h.text) (front_kinds input tokens few n front) h.spelled in
+    let behind : i ≤ n = ends_in_front kinds n at i h.text within (omega arith) spelled in
+    let before : i < length kinds = stops_inside kinds at i h.text h.state ended (omega arith) (spelled_in_front kinds n at i h.text within behind spelled) h.ran h.undone in
+    (behind, omega arith)
+
+pub fault_in_front : (input : List ℕ) (tokens few : List Token) (at n i : ℕ) (fault : FileFault) → few ≡ take n tokens → n ≡ at + min (length tokens - at) most_tokens → at < length tokens → IsEnded (terminals input tokens) → Stops (terminals input few) at i start → IsCause input tokens at i fault → IsItemFault input tokens at fault
+fault_in_front input tokens few at n i fault front room inside ended h cause =
+    let kinds = terminals input tokens in
+    let len = kinds_len input tokens in
+    let within : at ≤ n = omega arith in
+    let short : n ≤ length tokens = omega arith in
+    let stop = stop_in_front input tokens few at n i front within short inside ended h in
+    let same = front_kinds input tokens few n front in
+    let spelled = subst (λ l. IsSpelled l at i h.text) same h.spelled in
+    let refused = subst (λ l. Refuses h.state (drop i l)) same h.refused in
+    record { i = i; state = h.state; text = h.text; spelled = spelled_in_front kinds n at i h.text within stop.0 spelled; ran = h.ran; undone = h.undone;
+             refused = λ not_deep. refuses_in_front kinds n i h.state (before_end not_deep stop.0 stop.1) (omega arith) refused;
+             within = stop.1; few = omega (arith, stop.0); cause = cause }
+  where
+    before_end : i ≢ at + most_tokens → i ≤ n → i < length tokens → i < n
+    before_end not_deep behind before = omega (arith, room, λ (e : i ≡ at + most_tokens). not_deep e)
