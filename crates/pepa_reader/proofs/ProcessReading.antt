@@ -1,5 +1,5 @@
 -- What the readers of processes answer.
-use Rattle.std.proofs.Common.{◌≡◌, ℕ, ◌+◌, ◌<◌, List, [], ◌∷◌, ◌++◌, length, drop, refl, sym, ap, ◌∙◌, append_assoc, length-append, Option, Some, None, Result, Ok, Err, arith}
+use Rattle.std.proofs.Common.{◌≡◌, ℕ, ◌+◌, List, [], ◌∷◌, ◌++◌, length, drop, refl, ap, ◌∙◌, append_assoc, length-append, Option, Some, None, Ok, Err, arith}
 use Rattle.pepa_lexer.specs.declared.kinds.Sign.TheVariants.{Opening, Closing, Comma, Dot, Plus, Slash, Less, Greater, Or, OpeningBrace, ClosingBrace}
 use Rattle.pepa_reader.specs.declared.terminal.Terminal.{Terminal}
 use Rattle.pepa_reader.specs.declared.terminal.Terminal.TheVariants.{Capital, Mark}
@@ -12,7 +12,7 @@ use Rattle.pepa_reader.specs.declared.processes.ProcessRead.{ProcessRead}
 use Rattle.pepa_reader.specs.Grammar.{Plain, Probing, Word, Named, Internal, word_spelled, words_spelled, Rate, rate_spelled, Cooperation, Parallel, Sharing, cooperation_spelled, Process, OneChoice, Cooperating, Choice, OneHidden, Chosen, Hidden, OnePrefix, Hiding, Prefix, Activity, Grouped, process_spelled, choice_spelled, hidden_spelled, prefix_spelled}
 use Rattle.pepa_reader.specs.Trees.{ProcessNode, PrefixAt, ChoiceOf, CoopAt, HideOf, rate_node_of, process_node_of, rate_tree, word_indices, cooperation_indices, process_tree, choice_tree, hidden_tree, prefix_tree}
 use Rattle.pepa_reader.specs.Machine.{Pending, ChosenSoFar, Joining, Outer, InBrackets, RatePlace, OfActivity, Whole, OfHiding, OfCooperation, State, Want, After, WantComma, WantFactor, WantDot, WantBrace, AtSet, run, step, behind_rate, behind_choice, behind_process}
-use Rattle.pepa_reader.specs.Reading.{Begins, NoWord, IsSpelled, IsAt, Expects, Stops, IsRate, ReadsRate, AreWords, ReadsWords, IsCooperation, ReadsCooperation, activity_spelled, IsActivity, ReadsActivity, IsPrefix, ReadsPrefix, IsHidden, EndsHidden, ReadsHidden, IsChoice, EndsChoice, ReadsChoice, IsProcess, EndsProcess, ReadsProcess}
+use Rattle.pepa_reader.specs.Reading.{Begins, NoWord, IsSpelled, IsAt, Expects, Stops, IsRate, ReadsRate, AreWords, ReadsWords, IsCooperation, ReadsCooperation, activity_spelled, IsActivity, ReadsActivity, IsPrefix, ReadsPrefix, IsHidden, ReadsHidden, IsChoice, ReadsChoice, IsProcess, EndsProcess, ReadsProcess}
 use Rattle.pepa_reader.proofs.Spelled.{spelled_append, spelled_as, stops_here, stops_behind}
 use Rattle.pepa_reader.proofs.MachineRuns.{run_along, run_step, rate_closes, rate_runs, words_run, plus_behind_choice, or_behind_process, less_behind_process, hidden_runs, choice_runs, process_runs}
 use Rattle.pepa_reader.proofs.RateReading.{refuses_behind_rate, undone_behind_rate}
@@ -20,6 +20,7 @@ use Rattle.pepa_reader.proofs.ProcessStates.{refuses_prefix, refuses_comma, refu
 
 -- ---- activities
 
+-- the bracket and the word of an activity
 opening_word_runs : (word : Word) (pending : List Pending) (chosen : ChosenSoFar) (joining : Option Joining) (outer : Outer) → run (Want pending chosen joining outer) (Mark Opening ∷ word_spelled word ∷ []) ≡ Some (WantComma word pending chosen joining outer)
 unfolding run step
 opening_word_runs (Named Plain) pending chosen joining outer = refl
@@ -78,15 +79,9 @@ no_dot kinds at comma start dot word read (Refused i) front is_comma rate closin
         (stops_here tt (refuses_dot word rate.rate pending chosen joining outer (drop dot kinds) e.1)))))
 no_dot kinds at comma start dot word read Memory front is_comma rate closing e = tt
 
-pub is_activity : (kinds : List Terminal) (at comma start dot : ℕ) (word : Word) (rate_read : RateRead) (read : ActivityRead) → IsSpelled kinds at comma (Mark Opening ∷ word_spelled word ∷ []) → IsAt kinds comma start (Mark Comma) → IsRate kinds start rate_read → IsAt kinds rate_read.next dot (Mark Closing) → IsAt kinds dot read.next (Mark Dot) → rate_node_of read.rate ≡ rate_node_of rate_read.tree → IsActivity kinds at read
-is_activity kinds at comma start dot word rate_read read front is_comma rate closing is_dot tree =
-    let e : start ≡ at + 3 = omega (arith, front.index, is_comma.spelled.index) in
-    record { word = word; rate = rate.rate;
-             spelled = spelled_append front (spelled_append is_comma.spelled (spelled_append rate.spelled (spelled_append closing.spelled is_dot.spelled)));
-             tree = tree ∙ rate.tree ∙ ap (λ n. rate_tree n rate.rate) e }
-
 -- ---- prefixes
 
+-- an activity is one more that waits
 activity_runs : (word : Word) (rate : Rate) (pending : List Pending) (chosen : ChosenSoFar) (joining : Option Joining) (outer : Outer) → run (Want pending chosen joining outer) (activity_spelled word rate) ≡ Some (Want (record { word = word; rate = rate } ∷ pending) chosen joining outer)
 activity_runs word rate pending chosen joining outer =
     let place : RatePlace = OfActivity word pending chosen joining outer in
@@ -105,14 +100,7 @@ no_prefix kinds at (Refused i) capital e =
     rw e.0 (λ pending chosen joining outer admits. stops_here tt (refuses_prefix pending chosen joining outer (drop at kinds) capital e.1 admits))
 no_prefix kinds at Memory capital e = tt
 
--- the bracket and the word of an activity
-pub opening_word : (kinds : List Terminal) (at inside comma : ℕ) (word : Word) → IsAt kinds at inside (Mark Opening) → IsAt kinds inside comma (word_spelled word) → IsSpelled kinds at comma (Mark Opening ∷ word_spelled word ∷ [])
-opening_word kinds at inside comma word opening is_word = spelled_append opening.spelled is_word.spelled
-
-pub activity_fails : (kinds : List Terminal) (at : ℕ) (fault : PartFault) → ReadsActivity kinds at (Err fault) → ReadsPrefix kinds at (Err fault)
-activity_fails kinds at (Refused i) activity = λ pending chosen joining outer admits. activity pending chosen joining outer
-activity_fails kinds at Memory activity = tt
-
+-- what stops behind an activity stops in the prefix
 pub rest_fails : (kinds : List Terminal) (at : ℕ) (read : ActivityRead) (fault : PartFault) → IsActivity kinds at read → ReadsPrefix kinds read.next (Err fault) → ReadsPrefix kinds at (Err fault)
 rest_fails kinds at read (Refused i) activity prefix = λ pending chosen joining outer admits.
     let next : List Pending = record { word = activity.word; rate = activity.rate } ∷ pending in
@@ -133,6 +121,7 @@ is_performing kinds at activity rest read is prefix tree next =
              spelled = rw next (spelled_as (activity_prefix_spelled is.word is.rate prefix.prefix) (spelled_append is.spelled prefix.spelled));
              tree = tree ∙ ap (λ n. PrefixAt at n (process_node_of rest.tree)) is.tree ∙ ap (λ n. PrefixAt at (rate_tree (at + 3) is.rate) n) (prefix.tree ∙ ap (λ n. prefix_tree n prefix.prefix) e) }
 
+-- what stops in brackets stops in the prefix
 pub group_fails : (kinds : List Terminal) (at inside : ℕ) (fault : PartFault) → IsAt kinds at inside (Mark Opening) → NoWord (drop inside kinds) → ReadsProcess kinds inside (Err fault) → ReadsPrefix kinds at (Err fault)
 group_fails kinds at inside (Refused i) opening none process = λ pending chosen joining outer admits.
     let brackets : Outer = InBrackets pending chosen joining outer in
@@ -162,10 +151,6 @@ slash_runs hidden chosen joining outer = refl
 brace_runs : (hidden : Hidden) (chosen : ChosenSoFar) (joining : Option Joining) (outer : Outer) → run (WantBrace hidden chosen joining outer) (Mark OpeningBrace ∷ []) ≡ Some (AtSet (OfHiding hidden chosen joining outer))
 unfolding run step
 brace_runs hidden chosen joining outer = refl
-
-pub one_prefix_fails : (kinds : List Terminal) (at : ℕ) (fault : PartFault) → ReadsPrefix kinds at (Err fault) → ReadsHidden kinds at (Err fault)
-one_prefix_fails kinds at (Refused i) prefix = λ chosen joining outer admits. prefix [] chosen joining outer admits
-one_prefix_fails kinds at Memory prefix = tt
 
 pub is_one_prefix : (kinds : List Terminal) (at : ℕ) (read : ProcessRead) → IsPrefix kinds at read → IsHidden kinds at read
 is_one_prefix kinds at read prefix = record { hidden = OnePrefix prefix.prefix; spelled = prefix.spelled; tree = prefix.tree }
@@ -201,10 +186,6 @@ plus_runs : (choice : Choice) (joining : Option Joining) (outer : Outer) → run
 unfolding run
 plus_runs choice joining outer = run_step (behind_choice choice joining outer) (Want [] (Some choice) joining outer) (Mark Plus) [] (plus_behind_choice choice joining outer)
 
-pub one_hidden_fails : (kinds : List Terminal) (at : ℕ) (fault : PartFault) → ReadsHidden kinds at (Err fault) → ReadsChoice kinds at (Err fault)
-one_hidden_fails kinds at (Refused i) hidden = λ joining outer admits. hidden None joining outer admits
-one_hidden_fails kinds at Memory hidden = tt
-
 pub is_one_hidden : (kinds : List Terminal) (at : ℕ) (read : ProcessRead) → IsHidden kinds at read → IsChoice kinds at read
 is_one_hidden kinds at read hidden = record { choice = OneHidden hidden.hidden; spelled = hidden.spelled; tree = hidden.tree }
 
@@ -231,10 +212,6 @@ cooperation_runs process (Sharing words) outer =
     run_step (behind_process process outer) (AtSet (OfCooperation process outer)) (Mark Less) (words_spelled words ++ Mark Greater ∷ []) (less_behind_process process outer)
     ∙ words_run (OfCooperation process outer) words (Mark Greater) refl
 
-pub one_choice_fails : (kinds : List Terminal) (at : ℕ) (fault : PartFault) → ReadsChoice kinds at (Err fault) → ReadsProcess kinds at (Err fault)
-one_choice_fails kinds at (Refused i) choice = λ outer admits. choice None outer admits
-one_choice_fails kinds at Memory choice = tt
-
 pub is_one_choice : (kinds : List Terminal) (at : ℕ) (read : ProcessRead) → IsChoice kinds at read → IsProcess kinds at read
 is_one_choice kinds at read choice = record { process = OneChoice choice.choice; spelled = choice.spelled; tree = choice.tree }
 
@@ -242,6 +219,10 @@ pub cooperation_fails : (kinds : List Terminal) (at : ℕ) (read : ProcessRead) 
 cooperation_fails kinds at read (Refused i) is cooperation = λ outer admits.
     stops_behind (Want [] None None outer) (behind_process is.process outer) is.spelled (process_runs is.process outer) (cooperation is.process outer)
 cooperation_fails kinds at read Memory is cooperation = tt
+
+-- a cooperation that was found is one
+pub cooperation_found : (kinds : List Terminal) (at : ℕ) (found : Option WordsRead) (words : WordsRead) → found ≡ Some words → ReadsCooperation kinds at (Ok found) → IsCooperation kinds at words
+cooperation_found kinds at found words e h = rw e at h
 
 pub right_fails : (kinds : List Terminal) (at : ℕ) (read : ProcessRead) (words : WordsRead) (fault : PartFault) → IsProcess kinds at read → IsCooperation kinds read.next words → ReadsChoice kinds words.next (Err fault) → ReadsProcess kinds at (Err fault)
 right_fails kinds at read words (Refused i) is cooperation choice = λ outer admits.

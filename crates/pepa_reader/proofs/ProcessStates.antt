@@ -1,14 +1,15 @@
 -- What the machine refuses where a process begins, and behind one.
-use Rattle.std.proofs.Common.{◌≡◌, ◌≢◌, List, [], ◌∷◌, refl, Option, Some, None}
+use Rattle.std.proofs.Common.{◌≡◌, List, [], ◌∷◌, refl, Option, Some, None}
 use Rattle.pepa_lexer.specs.declared.kinds.Sign.TheVariants.{Equals, Semicolon, Opening, Closing, Comma, Dot, Plus, Slash, Less, Or, OpeningBrace}
 use Rattle.pepa_reader.specs.declared.terminal.Terminal.{Terminal}
 use Rattle.pepa_reader.specs.declared.terminal.Terminal.TheVariants.{Small, Probe, Tau, Capital, Mark, End}
 use Rattle.pepa_reader.specs.Grammar.{Plain, Probing, Word, Named, Internal, word_spelled, Rate, Process, OneChoice, Cooperating, OneHidden, Chosen, Hidden, OnePrefix, Constant}
-use Rattle.pepa_reader.specs.Machine.{Pending, ChosenSoFar, Joining, Outer, InLine, InSystem, InBrackets, State, Want, After, WantComma, WantDot, WantBrace, IsUndone, step, whole_process, starts, names_line, closes, behind_process}
+use Rattle.pepa_reader.specs.Machine.{Pending, ChosenSoFar, Joining, Outer, InLine, InSystem, InBrackets, Want, After, WantComma, WantDot, WantBrace, IsUndone, step, whole_process, starts, names_line, closes, behind_process}
 use Rattle.pepa_reader.specs.Reading.{Begins, Refuses, AdmitsPrefix, EndsProcess}
 
 -- ---- where a process begins
 
+-- no word stands where the start of an item or of an activity may
 no_start : (pending : List Pending) (chosen : ChosenSoFar) (joining : Option Joining) (outer : Outer) (word : Word) (more : List Terminal) → AdmitsPrefix pending chosen joining outer (word_spelled word ∷ more) → starts pending chosen joining outer word ≡ None
 no_start [] None None InSystem (Named Plain) more admits = absurd (admits.0 refl)
 no_start [] None None InSystem (Named Probing) more admits = absurd (admits.1 refl)
@@ -30,6 +31,7 @@ refuses_prefix pending chosen joining outer (_ ∷ more) capital opening admits 
 
 -- ---- in a prefix, and before a set
 
+-- each of these waits for one sign, which doesn't stand there
 pub refuses_comma : (word : Word) (pending : List Pending) (chosen : ChosenSoFar) (joining : Option Joining) (outer : Outer) (rest : List Terminal) → ¬ Begins rest (Mark Comma) → Refuses (WantComma word pending chosen joining outer) rest
 unfolding step
 refuses_comma word pending chosen joining outer [] comma = tt
@@ -61,10 +63,12 @@ StaysOpen process InLine rest = ¬ Begins rest (Mark Semicolon)
 StaysOpen process InSystem rest = (¬ Begins rest (Mark Semicolon)) × (¬ Begins rest End) × NoName process rest
 StaysOpen process (InBrackets pending chosen joining outer) rest = ¬ Begins rest (Mark Closing)
 
+-- a `=` makes nothing but the first constant of an item the name of a line
 no_line : (hidden : Hidden) (chosen : ChosenSoFar) (joining : Option Joining) (outer : Outer) (more : List Terminal) → StaysOpen (whole_process joining chosen hidden) outer (Mark Equals ∷ more) → names_line hidden chosen joining outer ≡ None
 no_line (OnePrefix Constant) None None InSystem more stays = absurd (stays.2 refl)
 no_line _ _ _ _ more stays = refl
 
+-- only `;`, `)` and the end close a process
 stays_open : (process : Process) (outer : Outer) (terminal : Terminal) (more : List Terminal) → StaysOpen process outer (terminal ∷ more) → closes process outer terminal ≡ None
 stays_open process InLine (Mark Semicolon) more stays = absurd (stays refl)
 stays_open process InLine _ more stays = refl
@@ -74,6 +78,7 @@ stays_open process InSystem _ more stays = refl
 stays_open process (InBrackets pending chosen joining outer) (Mark Closing) more stays = absurd (stays refl)
 stays_open process (InBrackets pending chosen joining outer) _ more stays = refl
 
+-- behind a part of a process stands nothing that goes on with it, nor closes it
 refuses_after : (hidden : Hidden) (chosen : ChosenSoFar) (joining : Option Joining) (outer : Outer) (rest : List Terminal) → EndsProcess rest → StaysOpen (whole_process joining chosen hidden) outer rest → Refuses (After hidden chosen joining outer) rest
 unfolding step
 refuses_after hidden chosen joining outer [] ends stays = tt
@@ -84,6 +89,7 @@ refuses_after hidden chosen joining outer (Mark Less ∷ more) ends stays = absu
 refuses_after hidden chosen joining outer (Mark Equals ∷ more) ends stays = no_line hidden chosen joining outer more stays
 refuses_after hidden chosen joining outer (terminal ∷ more) ends stays = stays_open (whole_process joining chosen hidden) outer terminal more stays
 
+-- the same behind a whole process
 pub refuses_behind_process : (process : Process) (outer : Outer) (rest : List Terminal) → EndsProcess rest → StaysOpen process outer rest → Refuses (behind_process process outer) rest
 refuses_behind_process (OneChoice (OneHidden hidden)) outer rest ends stays = refuses_after hidden None None outer rest ends stays
 refuses_behind_process (OneChoice (Chosen choice hidden)) outer rest ends stays = refuses_after hidden (Some choice) None outer rest ends stays

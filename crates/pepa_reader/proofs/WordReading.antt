@@ -1,6 +1,6 @@
 -- What the readers of sets and of cooperations answer.
-use Rattle.std.proofs.Common.{◌≡◌, ◌≢◌, ℕ, ◌+◌, ◌<◌, List, [], ◌∷◌, ◌++◌, length, drop, refl, sym, ap, ◌∙◌, append_assoc, append-nil, Option, Some, None, Result, Ok, Err, arith}
-use Rattle.pepa_lexer.specs.declared.kinds.Sign.TheVariants.{Comma, Less, Greater, Or, ClosingBrace}
+use Rattle.std.proofs.Common.{◌≡◌, ◌≢◌, ℕ, ◌+◌, List, [], ◌∷◌, ◌++◌, length, drop, refl, sym, ap, ◌∙◌, append_assoc, append-nil, Some, None, Err, arith}
+use Rattle.pepa_lexer.specs.declared.kinds.Sign.TheVariants.{Comma, Less, Greater, ClosingBrace}
 use Rattle.pepa_reader.specs.declared.terminal.Terminal.{Terminal}
 use Rattle.pepa_reader.specs.declared.terminal.Terminal.TheVariants.{Small, Probe, Tau, Mark}
 use Rattle.pepa_reader.specs.declared.fault.PartFault.{PartFault}
@@ -9,7 +9,7 @@ use Rattle.pepa_reader.specs.declared.words.WordsRead.{WordsRead}
 use Rattle.pepa_reader.specs.Grammar.{Plain, Probing, Word, Named, Internal, word_spelled, words_spelled, Sharing, Process}
 use Rattle.pepa_reader.specs.Trees.{word_indices}
 use Rattle.pepa_reader.specs.Machine.{Outer, SetPlace, OfCooperation, OfHiding, State, AtSet, AfterWord, WantWord, IsUndone, step, run, closes_set, behind_process}
-use Rattle.pepa_reader.specs.Reading.{Begins, NoWord, IsSpelled, IsAt, Expects, Refuses, Stops, closing_of, AreWords, ReadsWords, IsCooperation, ReadsCooperation}
+use Rattle.pepa_reader.specs.Reading.{Begins, NoWord, IsSpelled, IsAt, Expects, Refuses, closing_of, AreWords, ReadsWords, IsCooperation, ReadsCooperation}
 use Rattle.pepa_reader.proofs.Spelled.{spelled_append, spelled_as, stops_here, stops_behind}
 use Rattle.pepa_reader.proofs.MachineRuns.{run_step, less_behind_process}
 
@@ -19,15 +19,18 @@ abbrev pub listed : List Word → List Terminal
 listed [] = []
 listed (word ∷ words) = word_spelled word ∷ Mark Comma ∷ listed words
 
+-- the last word has no comma behind it
 last_listed : (words : List Word) (word : Word) → listed words ++ word_spelled word ∷ [] ≡ words_spelled (words ++ word ∷ [])
 last_listed [] word = refl
 last_listed (first ∷ []) word = refl
 last_listed (first ∷ second ∷ more) word = ap (λ l. word_spelled first ∷ Mark Comma ∷ l) (last_listed (second ∷ more) word)
 
+-- one more word, with its comma
 listed_more : (words : List Word) (word : Word) → listed words ++ word_spelled word ∷ Mark Comma ∷ [] ≡ listed (words ++ word ∷ [])
 listed_more [] word = refl
 listed_more (first ∷ more) word = ap (λ l. word_spelled first ∷ Mark Comma ∷ l) (listed_more more word)
 
+-- the last word stands behind the others and their commas
 last_index : (at : ℕ) (words : List Word) (word : Word) → word_indices at (words ++ word ∷ []) ≡ word_indices at words ++ (at + length (listed words)) ∷ []
 last_index at [] word = ap (λ n. n ∷ []) (omega arith)
 last_index at (first ∷ more) word =
@@ -41,6 +44,7 @@ abbrev pub wants : SetPlace → List Word → State
 wants place [] = AtSet place
 wants place (word ∷ words) = WantWord place (word ∷ words)
 
+-- a word is added at the end of those that were read
 takes : (place : SetPlace) (words : List Word) (word : Word) → step (wants place words) (word_spelled word) ≡ Some (AfterWord place (words ++ word ∷ []))
 unfolding step
 takes place [] (Named Plain) = refl
@@ -55,6 +59,7 @@ unfolding step
 comma_behind place [] word = refl
 comma_behind place (first ∷ words) word = refl
 
+-- all words that are left, each with its comma
 listed_onward : (place : SetPlace) (read more : List Word) → run (wants place read) (listed more) ≡ Some (wants place (read ++ more))
 unfolding run
 listed_onward place read [] = ap (λ l. Some (wants place l)) (sym (append-nil read))
@@ -79,6 +84,7 @@ abbrev pub StaysUnclosed : List Word → Terminal → List Terminal → Type 0
 StaysUnclosed [] close rest = ¬ Begins rest close
 StaysUnclosed (word ∷ words) close rest = Unit {0}
 
+-- only `>` and `}` close a set
 set_stays : (place : SetPlace) (words : List Word) (terminal : Terminal) → terminal ≢ closing_of place → closes_set place words terminal ≡ None
 set_stays (OfCooperation process outer) words (Mark Greater) other = absurd (other refl)
 set_stays (OfCooperation process outer) words _ other = refl
@@ -128,9 +134,6 @@ stays_behind (first ∷ words) word close rest = tt
 indices_more : (at next : ℕ) (set : List ℕ) (words : List Word) (word : Word) → next ≡ at + length (listed words) → set ≡ word_indices at words → set ++ next ∷ [] ≡ word_indices at (words ++ word ∷ [])
 indices_more at next set words word n e = ap (λ l. l ++ next ∷ []) e ∙ ap (λ m. word_indices at words ++ m ∷ []) n ∙ sym (last_index at words word)
 
-pub none_listed : (kinds : List Terminal) (at : ℕ) (close : Terminal) → ¬ Begins (drop at kinds) close → AreListed kinds at close [] at
-none_listed kinds at close stays = record { words = []; spelled = record { whole = refl; index = omega arith }; indices = refl; stays = stays }
-
 pub one_more_listed : (kinds : List Terminal) (at mid behind next : ℕ) (close : Terminal) (set : List ℕ) (word : Word) → AreListed kinds at close set mid → IsAt kinds mid behind (word_spelled word) → IsAt kinds behind next (Mark Comma) → AreListed kinds at close (set ++ mid ∷ []) next
 one_more_listed kinds at mid behind next close set word so_far is_word comma =
     record { words = so_far.words ++ word ∷ [];
@@ -144,11 +147,13 @@ are_words kinds at mid behind next close read set word so_far is_word closing is
              spelled = rw is_next (spelled_append (spelled_as (last_listed so_far.words word) (spelled_append so_far.spelled is_word.spelled)) closing.spelled);
              set = is_set ∙ indices_more at mid set so_far.words word so_far.spelled.index so_far.indices }
 
+-- the set stops where no word stands
 pub no_word : (kinds : List Terminal) (at next : ℕ) (close : Terminal) (set : List ℕ) → AreListed kinds at close set next → NoWord (drop next kinds) → ReadsWords kinds at close (Err (Refused next))
 no_word kinds at next close set so_far none = λ place same.
     stops_behind (AtSet place) (wants place so_far.words) so_far.spelled (listed_onward place [] so_far.words)
     (stops_here (undone_wants place so_far.words) (refuses_wants place so_far.words close (drop next kinds) same none so_far.stays))
 
+-- the set stops where neither a comma nor the closing sign stands behind a word
 pub no_comma : (kinds : List Terminal) (at mid behind : ℕ) (close : Terminal) (set : List ℕ) (word : Word) (fault : PartFault) → AreListed kinds at close set mid → IsAt kinds mid behind (word_spelled word) → ¬ Begins (drop behind kinds) close → Expects kinds behind (Mark Comma) (Err fault) → ReadsWords kinds at close (Err fault)
 no_comma kinds at mid behind close set word (Refused i) so_far is_word stays e =
     rw e.0 (λ place same.
@@ -163,6 +168,7 @@ less_runs : (process : Process) (outer : Outer) → run (behind_process process 
 unfolding run
 less_runs process outer = run_step (behind_process process outer) (AtSet (OfCooperation process outer)) (Mark Less) [] (less_behind_process process outer)
 
+-- what stops in the set of a cooperation stops behind the process
 pub sharing_fails : (kinds : List Terminal) (at inside : ℕ) (fault : PartFault) → IsAt kinds at inside (Mark Less) → ReadsWords kinds inside (Mark Greater) (Err fault) → ReadsCooperation kinds at (Err fault)
 sharing_fails kinds at inside (Refused i) less words = λ process outer.
     stops_behind (behind_process process outer) (AtSet (OfCooperation process outer)) less.spelled (less_runs process outer) (words (OfCooperation process outer) refl)
