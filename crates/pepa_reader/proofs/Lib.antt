@@ -5,6 +5,13 @@ pub mod MachineEnds
 pub mod ItemLaws
 pub mod Spelled
 pub mod RateReading
+pub mod Places
+pub mod LineReading
+pub mod TokenEnds
+pub mod FrontReading
+pub mod FaultReading
+pub mod FileReading
 pub mod ProcessStates
 pub mod WordReading
 pub mod ProcessReading
+pub mod SystemReading

@@ -1,7 +1,8 @@
 -- What the readers of items answer, and why a token is refused.
-use Rattle.std.specs.Prelude.{◌≡◌, ◌≢◌, ℕ, ◌+◌, ◌<◌, ◌≤◌, length, List, [], ◌∷◌, ◌++◌, drop, slice_get, Some, Result, Ok, Err}
+use Rattle.std.specs.Prelude.{◌≡◌, ◌≢◌, ℕ, ◌+◌, ◌<◌, ◌≤◌, ◌⊎◌, length, List, [], ◌∷◌, ◌++◌, drop, slice_get, Some, Result, Ok, Err}
+use Rattle.std.specs.List.{AllByRecursion}
 use Rattle.pepa_lexer.specs.declared.kinds.Token.{Token}
-use Rattle.pepa_lexer.specs.declared.kinds.Sign.TheVariants.{Equals, Semicolon, Closing, Star, Less, OpeningBracket}
+use Rattle.pepa_lexer.specs.declared.kinds.Sign.TheVariants.{Equals, Semicolon, OpeningBracket}
 use Rattle.pepa_reader.specs.declared.terminal.Terminal.{Terminal}
 use Rattle.pepa_reader.specs.declared.terminal.Terminal.TheVariants.{Probe, Capital, Mark, End}
 use Rattle.pepa_reader.specs.declared.fault.FileFault.{FileFault}
@@ -13,11 +14,11 @@ use Rattle.pepa_reader.specs.declared.items.Item.{Item}
 use Rattle.pepa_reader.specs.declared.items.Item.TheVariants.{Rate, Process, System}
 use Rattle.pepa_reader.specs.declared.items.ItemRead.{ItemRead}
 use Rattle.pepa_reader.specs.Grammar as g
-use Rattle.pepa_reader.specs.Grammar.{line_spelled, item_spelled}
-use Rattle.pepa_reader.specs.Trees.{rate_node_of, process_node_of, rate_tree, process_tree, rate_line_of, process_line_of}
+use Rattle.pepa_reader.specs.Grammar.{ending_spelled, item_spelled}
+use Rattle.pepa_reader.specs.Trees.{rate_node_of, process_node_of, rate_tree, process_tree}
 use Rattle.pepa_reader.specs.FileAnswers.{most_tokens, StandsAt, Tells, IsWildcard}
-use Rattle.pepa_reader.specs.Machine.{start}
-use Rattle.pepa_reader.specs.Reading.{Begins, IsSpelled, Stops}
+use Rattle.pepa_reader.specs.Machine.{State, IsUndone, run, start}
+use Rattle.pepa_reader.specs.Reading.{Begins, IsSpelled, IsAt, Refuses, Stops}
 use Rattle.pepa_reader.specs.Terminals.{terminals}
 
 -- a constant and a `=`
@@ -27,6 +28,13 @@ IsLineHead kinds at next = IsSpelled kinds at next (Capital ∷ Mark Equals ∷ 
 abbrev pub NoLineHead : List Terminal → Type 0
 NoLineHead (Capital ∷ Mark Equals ∷ more) = ⊥
 NoLineHead _ = Unit {0}
+
+-- the end of a system, or neither the end of the text nor a `;`, or a `;` without the end
+abbrev pub ReadsEnding : List Terminal → ℕ → Result ℕ PartFault → Type 0
+ReadsEnding kinds at (Ok next) = (ending : g.Ending) × IsSpelled kinds at next (ending_spelled ending)
+ReadsEnding kinds at (Err (Refused i)) =
+    ((i ≡ at) × (¬ Begins (drop at kinds) End) × (¬ Begins (drop at kinds) (Mark Semicolon))) ⊎ (IsAt kinds at i (Mark Semicolon) × (¬ Begins (drop i kinds) End))
+ReadsEnding kinds at (Err Memory) = ⊥
 
 -- the item is this one of the grammar
 abbrev pub IsItem : ℕ → Item → g.Item → Type 0
@@ -47,32 +55,38 @@ ReadsItem kinds at (Err Memory) = Unit {0}
 
 -- `probe` alone stands before i in its item
 abbrev pub IsProbeLine : List Terminal → ℕ → ℕ → Type 0
-IsProbeLine kinds start i = (i ≡ start + 1) × StandsAt kinds start Probe
+IsProbeLine kinds at i = (i ≡ at + 1) × StandsAt kinds at Probe
 
 -- the token at the index, and its place
 abbrev pub TellsAt : List Token → FileFault → ℕ → Type 0
 TellsAt tokens fault i = (token : Token) × (slice_get tokens i ≡ Some token) × Tells fault token.place
 
--- why the token at i was refused, in the item that begins at `start`
+-- why the token at i was refused, in the item that begins at `at`
 abbrev pub IsCause : List ℕ → List Token → ℕ → ℕ → FileFault → Type 0
-IsCause input tokens start i (Unsupported place) = IsProbeLine (terminals input tokens) start i × TellsAt tokens (Unsupported place) start
-IsCause input tokens start i (TooDeep place) = (i ≡ start + most_tokens) × TellsAt tokens (TooDeep place) i
-IsCause input tokens start i (Array place) =
-    (i ≢ start + most_tokens) × (¬ IsProbeLine (terminals input tokens) start i) × StandsAt (terminals input tokens) i (Mark OpeningBracket) × TellsAt tokens (Array place) i
-IsCause input tokens start i (Wildcard place) =
-    (i ≢ start + most_tokens) × (¬ IsProbeLine (terminals input tokens) start i) × IsWildcard (terminals input tokens) i × TellsAt tokens (Wildcard place) i
-IsCause input tokens start i (Expected place) =
-    (i ≢ start + most_tokens) × (¬ IsProbeLine (terminals input tokens) start i) × (¬ StandsAt (terminals input tokens) i (Mark OpeningBracket)) × (¬ IsWildcard (terminals input tokens) i) × TellsAt tokens (Expected place) i
-IsCause input tokens start i faults.Memory = ⊥
+IsCause input tokens at i (Unsupported place) = IsProbeLine (terminals input tokens) at i × TellsAt tokens (Unsupported place) at
+IsCause input tokens at i (TooDeep place) = (i ≡ at + most_tokens) × TellsAt tokens (TooDeep place) i
+IsCause input tokens at i (Array place) =
+    (i ≢ at + most_tokens) × (¬ IsProbeLine (terminals input tokens) at i) × StandsAt (terminals input tokens) i (Mark OpeningBracket) × TellsAt tokens (Array place) i
+IsCause input tokens at i (Wildcard place) =
+    (i ≢ at + most_tokens) × (¬ IsProbeLine (terminals input tokens) at i) × IsWildcard (terminals input tokens) i × TellsAt tokens (Wildcard place) i
+IsCause input tokens at i (Expected place) =
+    (i ≢ at + most_tokens) × (¬ IsProbeLine (terminals input tokens) at i) × (¬ StandsAt (terminals input tokens) i (Mark OpeningBracket)) × (¬ IsWildcard (terminals input tokens) i) × TellsAt tokens (Expected place) i
+IsCause input tokens at i faults.Memory = ⊥
 
--- the last terminal is the end
+-- the last terminal is the end, and no other is
 abbrev pub IsEnded : List Terminal → Type 0
-IsEnded kinds = (front : List Terminal) × (kinds ≡ front ++ End ∷ [])
+IsEnded kinds = (front : List Terminal) × (kinds ≡ front ++ End ∷ []) × AllByRecursion (λ terminal. terminal ≢ End) front
 
--- the machine stops at i, at most 2,048 terminals behind the item's start, for the fault's cause
+-- from the item's start on the machine comes to i, which is at most 2,048 terminals behind; where it is fewer, it refuses
+-- what stands there
 pub record IsItemFault (input : List ℕ) (tokens : List Token) (at : ℕ) (fault : FileFault) : Type 0 where
   pub i : ℕ
-  pub stops : Stops (terminals input tokens) at i start
+  pub state : State
+  pub text : List Terminal
+  pub spelled : IsSpelled (terminals input tokens) at i text
+  pub ran : run start text ≡ Some state
+  pub undone : IsUndone state
+  pub refused : i ≢ at + most_tokens → Refuses state (drop i (terminals input tokens))
   pub within : i < length tokens
   pub few : i ≤ at + most_tokens
   pub cause : IsCause input tokens at i fault

@@ -3,7 +3,7 @@
 ghost use Rattle.std.specs.Prelude.{drop, MatchOption};
 ghost use Rattle.pepa_reader.specs.Grammar.{SmallName, small_spelled};
 ghost use Rattle.pepa_reader.specs.Reading.{kinds_of, IsAt, NoSmall};
-ghost use Rattle.pepa_reader.specs.ItemReading.{IsLineHead, NoLineHead, ReadsItem};
+ghost use Rattle.pepa_reader.specs.ItemReading.{IsLineHead, NoLineHead, ReadsEnding, ReadsItem};
 
 use crate::fault::PartFault;
 use crate::processes::ProcessRead;
@@ -60,6 +60,17 @@ impl Text<'_, '_> {
         Ok(ItemRead { item, next })
     }
 
+    /// The index behind the end of the text, which stands at the index, or behind a `;` there.
+    fn ending(&self, at: usize) -> Result<usize, PartFault>
+        ensures { ReadsEnding (kinds_of self.now) at result }
+    {
+        if let Some(next) = self.behind(at, Terminal::End) {
+            return Ok(next);
+        }
+        let end = self.expect(at, Terminal::Mark(Sign::Semicolon))?;
+        self.expect(end, Terminal::End)
+    }
+
     /// The system, with the end of the text.
     fn system(&self, alloc: Global, at: usize) -> Result<ItemRead, PartFault>
         requires small { NoSmall (drop at (kinds_of self.now)) }
@@ -67,12 +78,8 @@ impl Text<'_, '_> {
         ensures { ReadsItem (kinds_of self.now) at result }
     {
         let ProcessRead { tree, next } = self.process(alloc, at)?;
+        let next = self.ending(next)?;
         let item = Item::System(tree);
-        if let Some(next) = self.behind(next, Terminal::End) {
-            return Ok(ItemRead { item, next });
-        }
-        let end = self.expect(next, Terminal::Mark(Sign::Semicolon))?;
-        let next = self.expect(end, Terminal::End)?;
         Ok(ItemRead { item, next })
     }
 

@@ -1,0 +1,159 @@
+-- Why a file isn't read: what the machine shows of the first token that can't follow.
+use Rattle.std.proofs.Common.{◌≡◌, ◌≢◌, ℕ, suc, ◌+◌, ◌<◌, ◌≤◌, List, [], ◌∷◌, ◌++◌, length, get_or, take, drop, refl, sym, ap, subst, add-one, ◌∙◌, append_assoc, append-nil, length-append, arith, Some, None, Option, slice_get, Err}
+use Rattle.std.proofs.lemmas.List.{length-map, take-append-drop}
+use Rattle.std.proofs.lemmas.Option.{same_Some}
+use Rattle.std.proofs.Math.Seq.{drop-cons, take-append_seam}
+use Rattle.pepa_lexer.specs.declared.kinds.Token.{Token}
+use Rattle.pepa_lexer.specs.declared.kinds.Sign.TheVariants.{Equals}
+use Rattle.pepa_reader.specs.declared.terminal.Terminal.{Terminal}
+use Rattle.pepa_reader.specs.declared.terminal.Terminal.TheVariants.{Probe, Mark, End}
+use Rattle.pepa_reader.specs.declared.fault.FileFault.{FileFault}
+use Rattle.pepa_reader.specs.declared.fault.FileFault.TheVariants as faults
+use Rattle.pepa_reader.specs.Terminals.{terminals, terminal_of}
+use Rattle.pepa_reader.specs.Grammar.{Probing, Line, Item, item_spelled, lines_spelled}
+use Rattle.pepa_reader.specs.FileAnswers.{most_tokens, CanGoOn, CantFollow, StandsAt, AreShort, IsInItem, BeginsProbeLine, IsRefused, IsFaultAt, Tells, IsFileFault, ReadsFile}
+use Rattle.pepa_reader.specs.Machine.{State, WantEquals, IsUndone, step, run, start}
+use Rattle.pepa_reader.specs.Reading.{Begins, IsSpelled, Refuses}
+use Rattle.pepa_reader.specs.ItemReading.{IsProbeLine, TellsAt, IsCause, IsItemFault, ReadsItemAt}
+use Rattle.pepa_reader.proofs.Spelled.{spelled_nothing}
+use Rattle.pepa_reader.proofs.Places.{begins_there}
+use Rattle.pepa_reader.proofs.ItemLaws.{begins_item, can_go_on, cant_go_on}
+
+-- ---- items that aren't read
+
+pub item_fails : (input : List ℕ) (tokens : List Token) (at : ℕ) (fault : FileFault) → IsItemFault input tokens at fault → ReadsItemAt input tokens at (Err fault)
+item_fails input tokens at (faults.Expected place) h = h
+item_fails input tokens at (faults.TooDeep place) h = h
+item_fails input tokens at (faults.Array place) h = h
+item_fails input tokens at (faults.Wildcard place) h = h
+item_fails input tokens at (faults.Unsupported place) h = h
+item_fails input tokens at faults.Memory h = tt
+
+-- ---- lines, and a part of an item
+
+-- the terminals are lines, a text that the machine reads, and what stands behind it, at i
+pub record Stopped (kinds : List Terminal) (at i : ℕ) : Type 0 where
+  pub lines : List Line
+  pub short : AreShort lines
+  pub text : List Terminal
+  pub state : State
+  pub whole : kinds ≡ (lines_spelled lines ++ text) ++ drop i kinds
+  pub from : at ≡ length (lines_spelled lines)
+  pub index : i ≡ at + length text
+  pub ran : run start text ≡ Some state
+  pub undone : IsUndone state
+  pub within : i < length kinds
+
+front_of_stopped : (kinds front behind : List Terminal) (i : ℕ) → kinds ≡ front ++ behind → i ≡ length front → take i kinds ≡ front
+front_of_stopped kinds front behind i whole index = rw (whole, index) (take-append_seam front behind)
+
+before_stop : (kinds : List Terminal) (at i : ℕ) (h : Stopped kinds at i) → take i kinds ≡ lines_spelled h.lines ++ h.text
+before_stop kinds at i h = front_of_stopped kinds (lines_spelled h.lines ++ h.text) (drop i kinds) i h.whole (omega (arith, h.from, h.index, length-append (lines_spelled h.lines) h.text))
+
+behind_stop : (kinds : List Terminal) (at i : ℕ) (h : Stopped kinds at i) (terminal : Terminal) → drop i kinds ≡ terminal ∷ drop (suc i) kinds → take (i + 1) kinds ≡ lines_spelled h.lines ++ (h.text ++ terminal ∷ [])
+behind_stop kinds at i h terminal e =
+    let parts = lines_spelled h.lines ++ h.text in
+    let whole : kinds ≡ (parts ++ terminal ∷ []) ++ drop (suc i) kinds = h.whole ∙ ap (λ l. parts ++ l) e ∙ sym (append_assoc parts (terminal ∷ []) (drop (suc i) kinds)) in
+    front_of_stopped kinds (parts ++ terminal ∷ []) (drop (suc i) kinds) (i + 1) whole (omega (arith, h.from, h.index, length-append (lines_spelled h.lines) h.text, length-append parts (terminal ∷ [])))
+    ∙ append_assoc (lines_spelled h.lines) h.text (terminal ∷ [])
+
+pub in_item : (kinds : List Terminal) (at i : ℕ) (h : Stopped kinds at i) → IsInItem kinds i (length h.text)
+in_item kinds at i h =
+    let begun = begins_item h.text h.state h.ran h.undone in
+    record { lines = h.lines; short = h.short; item = begun.0;
+             before = before_stop kinds at i h ∙ ap (λ l. lines_spelled h.lines ++ l) begun.1;
+             index = omega (arith, h.from, h.index); more = begun.2 }
+
+refused_step : (state : State) (terminal : Terminal) (rest more : List Terminal) → rest ≡ terminal ∷ more → Refuses state rest → step state terminal ≡ None
+refused_step state terminal rest more e r = rw e at r
+
+pub cant_follow : (kinds : List Terminal) (at i : ℕ) (h : Stopped kinds at i) → Refuses h.state (drop i kinds) → CantFollow kinds i
+cant_follow kinds at i h refused =
+    let terminal = get_or kinds i End in
+    let e : drop i kinds ≡ terminal ∷ drop (suc i) kinds = drop-cons kinds i End h.within in
+    record { within = h.within;
+             before = subst CanGoOn (sym (before_stop kinds at i h)) (can_go_on h.lines h.text h.state h.ran h.undone);
+             behind = λ go. cant_go_on h.lines h.text h.state terminal h.ran h.undone (refused_step h.state terminal (drop i kinds) (drop (suc i) kinds) e refused) (subst CanGoOn (behind_stop kinds at i h terminal e) go) }
+
+pub is_refused : (kinds : List Terminal) (at i : ℕ) (h : Stopped kinds at i) → i ≤ at + most_tokens → i ≢ at + most_tokens → Refuses h.state (drop i kinds) → ¬ IsProbeLine kinds at i → IsRefused kinds i
+is_refused kinds at i h few not_deep refused no_line =
+    record { first = cant_follow kinds at i h refused; begun = length h.text; in_item = in_item kinds at i h;
+             few = omega (arith, h.index, λ (e : i ≡ at + most_tokens). not_deep e);
+             no_probe_line = λ before one behind stands. no_line (omega (arith, h.index), subst (λ n. StandsAt kinds n Probe) (same before one behind) stands) }
+  where
+    same : (before : ℕ) → length h.text ≡ 1 → i ≡ before + 1 → before ≡ at
+    same before one behind = omega (arith, h.index)
+
+-- ---- probe lines
+
+probe_runs : run start (Probe ∷ []) ≡ Some (WantEquals Probing)
+unfolding run step
+probe_runs = refl
+
+no_equals_behind : (state : State) (rest : List Terminal) → state ≡ WantEquals Probing → Refuses state rest → ¬ Begins rest (Mark Equals)
+unfolding step
+no_equals_behind state [] e refused b = b
+no_equals_behind state (first ∷ more) e refused b =
+    let none : step (WantEquals Probing) (Mark Equals) ≡ None = subst (λ t. step (WantEquals Probing) t ≡ None) b (subst (λ s. step s first ≡ None) e refused) in
+    cc
+
+one_probe : (text front back : List Terminal) → length text ≡ 1 → front ≡ text ++ back → Begins front Probe → text ≡ Probe ∷ []
+one_probe [] front back one e b = absurd (omega arith)
+one_probe (t ∷ []) front back one e b = ap (λ u. u ∷ []) (first e b)
+  where
+    first : front ≡ t ∷ back → Begins front Probe → t ≡ Probe
+    first f b' = rw f at b'
+one_probe (t ∷ u ∷ more) front back one e b = absurd (omega arith)
+
+pub begins_probe_line : (kinds : List Terminal) (at i : ℕ) (h : Stopped kinds at i) → at ≡ length (lines_spelled h.lines) → drop at kinds ≡ h.text ++ drop i kinds → Refuses h.state (drop i kinds) → IsProbeLine kinds at i → BeginsProbeLine kinds at
+unfolding run
+begins_probe_line kinds at i h from spelled refused line =
+    let one : h.text ≡ Probe ∷ [] = one_probe h.text (drop at kinds) (drop i kinds) (omega (arith, h.index, line.0)) spelled (begins_there kinds at Probe line.1) in
+    let state : h.state ≡ WantEquals Probing = same_Some h.state (WantEquals Probing) (sym h.ran ∙ ap (run start) one ∙ probe_runs) in
+    record { begins = in_item kinds at at (nothing_read kinds at i h spelled);
+             probe = line.1;
+             behind = λ stands. no_equals_behind h.state (drop i kinds) state refused (begins_there kinds i (Mark Equals) (subst (λ n. StandsAt kinds n (Mark Equals)) (sym line.0) stands)) }
+  where
+    nothing_read : (kinds : List Terminal) (at i : ℕ) (h : Stopped kinds at i) → drop at kinds ≡ h.text ++ drop i kinds → Stopped kinds at at
+    nothing_read kinds at i h spelled =
+        record { lines = h.lines; short = h.short; text = []; state = start;
+                 whole = h.whole ∙ append_assoc (lines_spelled h.lines) h.text (drop i kinds) ∙ ap (λ l. lines_spelled h.lines ++ l) (sym spelled) ∙ ap (λ l. l ++ drop at kinds) (sym (append-nil (lines_spelled h.lines)));
+                 from = h.from; index = omega arith; ran = refl; undone = tt; within = omega (arith, h.within, h.index) }
+
+-- ---- faults
+
+stopped : (input : List ℕ) (tokens : List Token) (at : ℕ) (lines : List Line) (fault : FileFault) → AreShort lines → terminals input tokens ≡ lines_spelled lines ++ drop at (terminals input tokens) → at ≡ length (lines_spelled lines) → (h : IsItemFault input tokens at fault) → Stopped (terminals input tokens) at h.i
+stopped input tokens at lines fault short whole from h =
+    record { lines = lines; short = short; text = h.text; state = h.state;
+             whole = whole ∙ ap (λ l. lines_spelled lines ++ l) h.spelled.whole ∙ sym (append_assoc (lines_spelled lines) h.text (drop h.i (terminals input tokens)));
+             from = from; index = h.spelled.index; ran = h.ran; undone = h.undone;
+             within = omega (arith, h.within, length-map tokens (terminal_of input)) }
+
+-- a fault of an item is the file's
+pub file_fails : (input : List ℕ) (tokens : List Token) (at : ℕ) (lines : List Line) (fault : FileFault) → AreShort lines → terminals input tokens ≡ lines_spelled lines ++ drop at (terminals input tokens) → at ≡ length (lines_spelled lines) → ReadsItemAt input tokens at (Err fault) → ReadsFile input tokens (Err fault)
+unfolding stopped
+file_fails input tokens at lines (faults.Expected place) short whole from h =
+    let kinds = terminals input tokens in
+    let s = stopped input tokens at lines (faults.Expected place) short whole from h in
+    record { i = h.i; is_fault = (is_refused kinds at h.i s h.few h.cause.0 (h.refused h.cause.0) h.cause.1, h.cause.2, h.cause.3); token = h.cause.4.0; is_token = h.cause.4.1; place = h.cause.4.2 }
+file_fails input tokens at lines (faults.TooDeep place) short whole from h =
+    let kinds = terminals input tokens in
+    let s = stopped input tokens at lines (faults.TooDeep place) short whole from h in
+    let deep : length s.text ≡ most_tokens = omega (arith, h.spelled.index, h.cause.0) in
+    record { i = h.i; is_fault = (subst (λ n. IsInItem kinds h.i n) deep (in_item kinds at h.i s), s.within); token = h.cause.1.0; is_token = h.cause.1.1; place = h.cause.1.2 }
+file_fails input tokens at lines (faults.Array place) short whole from h =
+    let kinds = terminals input tokens in
+    let s = stopped input tokens at lines (faults.Array place) short whole from h in
+    record { i = h.i; is_fault = (is_refused kinds at h.i s h.few h.cause.0 (h.refused h.cause.0) h.cause.1, h.cause.2); token = h.cause.3.0; is_token = h.cause.3.1; place = h.cause.3.2 }
+file_fails input tokens at lines (faults.Wildcard place) short whole from h =
+    let kinds = terminals input tokens in
+    let s = stopped input tokens at lines (faults.Wildcard place) short whole from h in
+    record { i = h.i; is_fault = (is_refused kinds at h.i s h.few h.cause.0 (h.refused h.cause.0) h.cause.1, h.cause.2); token = h.cause.3.0; is_token = h.cause.3.1; place = h.cause.3.2 }
+file_fails input tokens at lines (faults.Unsupported place) short whole from h =
+    let kinds = terminals input tokens in
+    let s = stopped input tokens at lines (faults.Unsupported place) short whole from h in
+    record { i = at; is_fault = begins_probe_line kinds at h.i s from h.spelled.whole (h.refused (one_not_deep at h.i h.cause.0.0)) h.cause.0; token = h.cause.1.0; is_token = h.cause.1.1; place = h.cause.1.2 }
+  where
+    one_not_deep : (at i : ℕ) → i ≡ at + 1 → i ≢ at + most_tokens
+    one_not_deep at i one deep = omega arith
+file_fails input tokens at lines faults.Memory short whole from h = tt

@@ -1,0 +1,89 @@
+-- What the readers of lines answer.
+use Rattle.std.proofs.Common.{◌≡◌, ℕ, ◌+◌, List, [], ◌∷◌, ◌++◌, length, drop, refl, sym, ap, ◌∙◌, Some, None, Ok, Err, arith}
+use Rattle.pepa_lexer.specs.declared.kinds.Sign.TheVariants.{Equals, Semicolon}
+use Rattle.pepa_reader.specs.declared.terminal.Terminal.{Terminal}
+use Rattle.pepa_reader.specs.declared.terminal.Terminal.TheVariants.{Capital, Mark}
+use Rattle.pepa_reader.specs.declared.fault.PartFault.{PartFault}
+use Rattle.pepa_reader.specs.declared.fault.PartFault.TheVariants.{Refused, Memory}
+use Rattle.pepa_reader.specs.declared.rates.RateRead.{RateRead}
+use Rattle.pepa_reader.specs.declared.trees.RateLine.{RateLine}
+use Rattle.pepa_reader.specs.declared.items.Item.TheVariants.{Rate}
+use Rattle.pepa_reader.specs.declared.items.Item.TheVariants as items
+use Rattle.pepa_reader.specs.declared.processes.ProcessRead.{ProcessRead}
+use Rattle.pepa_reader.specs.Grammar.{SmallName, Plain, Probing, small_spelled, OneLine, RateNamed, ProcessNamed}
+use Rattle.pepa_reader.specs.Trees.{rate_tree, process_tree}
+use Rattle.pepa_reader.specs.Machine.{InLine, Whole, OfLine, Want, WantEquals, WantFactor, step, run, start, behind_rate, behind_process}
+use Rattle.pepa_reader.specs.Reading.{Begins, IsSpelled, IsAt, Expects, Refuses, IsRate, ReadsRate, EndsProcess, IsProcess, ReadsProcess}
+use Rattle.pepa_reader.specs.ItemReading.{IsLineHead, ReadsItem, IsItemRead}
+use Rattle.pepa_reader.proofs.Spelled.{spelled_append, stops_here, stops_behind}
+use Rattle.pepa_reader.proofs.MachineRuns.{rate_runs, process_runs}
+use Rattle.pepa_reader.proofs.RateReading.{refuses_behind_rate, undone_behind_rate}
+use Rattle.pepa_reader.proofs.ProcessStates.{refuses_behind_process, undone_behind_process}
+
+-- ---- rate lines
+
+name_runs : (name : SmallName) → run start (small_spelled name ∷ []) ≡ Some (WantEquals name)
+unfolding run step
+name_runs Plain = refl
+name_runs Probing = refl
+
+equals_runs : (name : SmallName) → run (WantEquals name) (Mark Equals ∷ []) ≡ Some (WantFactor None None (Whole (OfLine name)))
+unfolding run step
+equals_runs name = refl
+
+refuses_behind_name : (name : SmallName) (rest : List Terminal) → ¬ Begins rest (Mark Equals) → Refuses (WantEquals name) rest
+unfolding step
+refuses_behind_name name [] other = tt
+refuses_behind_name name (Mark Equals ∷ more) other = absurd (other refl)
+refuses_behind_name name (_ ∷ more) other = refl
+
+pub no_equals : (kinds : List Terminal) (at equals : ℕ) (name : SmallName) (fault : PartFault) → IsAt kinds at equals (small_spelled name) → Expects kinds equals (Mark Equals) (Err fault) → ReadsItem kinds at (Err fault)
+no_equals kinds at equals name (Refused i) named e =
+    rw e.0 (stops_behind start (WantEquals name) named.spelled (name_runs name) (stops_here tt (refuses_behind_name name (drop equals kinds) e.1)))
+no_equals kinds at equals name Memory named e = tt
+
+pub line_rate_fails : (kinds : List Terminal) (at equals from : ℕ) (name : SmallName) (fault : PartFault) → IsAt kinds at equals (small_spelled name) → IsAt kinds equals from (Mark Equals) → ReadsRate kinds from (Err fault) → ReadsItem kinds at (Err fault)
+line_rate_fails kinds at equals from name (Refused i) named is_equals rate =
+    stops_behind start (WantEquals name) named.spelled (name_runs name)
+    (stops_behind (WantEquals name) (WantFactor None None (Whole (OfLine name))) is_equals.spelled (equals_runs name) (rate (OfLine name)))
+line_rate_fails kinds at equals from name Memory named is_equals rate = tt
+
+pub rate_line_stays : (kinds : List Terminal) (at equals from : ℕ) (name : SmallName) (read : RateRead) (fault : PartFault) → IsAt kinds at equals (small_spelled name) → IsAt kinds equals from (Mark Equals) → IsRate kinds from read → Expects kinds read.next (Mark Semicolon) (Err fault) → ReadsItem kinds at (Err fault)
+rate_line_stays kinds at equals from name read (Refused i) named is_equals rate e =
+    let place = OfLine name in
+    rw e.0 (stops_behind start (WantEquals name) named.spelled (name_runs name)
+    (stops_behind (WantEquals name) (WantFactor None None (Whole place)) is_equals.spelled (equals_runs name)
+    (stops_behind (WantFactor None None (Whole place)) (behind_rate rate.rate place) rate.spelled (rate_runs rate.rate place)
+    (stops_here (undone_behind_rate rate.rate place) (refuses_behind_rate rate.rate place (drop read.next kinds) rate.ends e.1)))))
+rate_line_stays kinds at equals from name read Memory named is_equals rate e = tt
+
+pub is_rate_line : (kinds : List Terminal) (at equals from next : ℕ) (name : SmallName) (read : RateRead) → IsAt kinds at equals (small_spelled name) → IsAt kinds equals from (Mark Equals) → IsRate kinds from read → IsAt kinds read.next next (Mark Semicolon) → IsItemRead kinds at (record { item = Rate (record { at = at; rate = read.tree }); next = next })
+is_rate_line kinds at equals from next name read named is_equals rate closing =
+    let front : from ≡ at + 2 = omega (arith, named.spelled.index, is_equals.spelled.index) in
+    record { item = OneLine (RateNamed name rate.rate);
+             spelled = spelled_append named.spelled (spelled_append is_equals.spelled (spelled_append rate.spelled closing.spelled));
+             tree = (refl, rate.tree ∙ ap (λ n. rate_tree n rate.rate) front) }
+
+-- ---- process lines
+
+head_runs : run start (Capital ∷ Mark Equals ∷ []) ≡ Some (Want [] None None InLine)
+unfolding run step
+head_runs = refl
+
+pub line_process_fails : (kinds : List Terminal) (at from : ℕ) (fault : PartFault) → IsLineHead kinds at from → ReadsProcess kinds from (Err fault) → ReadsItem kinds at (Err fault)
+line_process_fails kinds at from (Refused i) head process = stops_behind start (Want [] None None InLine) head head_runs (process InLine tt)
+line_process_fails kinds at from Memory head process = tt
+
+pub process_line_stays : (kinds : List Terminal) (at from : ℕ) (read : ProcessRead) (fault : PartFault) → IsLineHead kinds at from → IsProcess kinds from read → EndsProcess (drop read.next kinds) → Expects kinds read.next (Mark Semicolon) (Err fault) → ReadsItem kinds at (Err fault)
+process_line_stays kinds at from read (Refused i) head process ends e =
+    rw e.0 (stops_behind start (Want [] None None InLine) head head_runs
+    (stops_behind (Want [] None None InLine) (behind_process process.process InLine) process.spelled (process_runs process.process InLine)
+    (stops_here (undone_behind_process process.process InLine) (refuses_behind_process process.process InLine (drop read.next kinds) ends e.1))))
+process_line_stays kinds at from read Memory head process ends e = tt
+
+pub is_process_line : (kinds : List Terminal) (at from next : ℕ) (read : ProcessRead) → IsLineHead kinds at from → IsProcess kinds from read → IsAt kinds read.next next (Mark Semicolon) → IsItemRead kinds at (record { item = items.Process (record { at = at; body = read.tree }); next = next })
+is_process_line kinds at from next read head process closing =
+    let front : from ≡ at + 2 = omega (arith, head.index) in
+    record { item = OneLine (ProcessNamed process.process);
+             spelled = spelled_append head (spelled_append process.spelled closing.spelled);
+             tree = (refl, process.tree ∙ ap (λ n. process_tree n process.process) front) }
