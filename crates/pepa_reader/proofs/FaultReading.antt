@@ -1,6 +1,6 @@
 -- Why a file isn't read: what the machine shows of the first token that can't follow.
-use Rattle.std.proofs.Common.{◌≡◌, ◌≢◌, ℕ, suc, ◌+◌, ◌<◌, ◌≤◌, List, [], ◌∷◌, ◌++◌, length, get_or, take, drop, refl, sym, ap, subst, add-one, ◌∙◌, append_assoc, append-nil, length-append, arith, Some, None, Option, slice_get, Err}
-use Rattle.std.proofs.lemmas.List.{length-map, take-append-drop}
+use Rattle.std.proofs.Common.{◌≡◌, ◌≢◌, ℕ, suc, ◌+◌, ◌<◌, ◌≤◌, List, [], ◌∷◌, ◌++◌, length, get_or, take, drop, refl, sym, ap, subst, ◌∙◌, append_assoc, append-nil, length-append, arith, Some, None, Err}
+use Rattle.std.proofs.lemmas.List.{length-map}
 use Rattle.std.proofs.lemmas.Option.{same_Some}
 use Rattle.std.proofs.Math.Seq.{drop-cons, take-append_seam}
 use Rattle.pepa_lexer.specs.declared.kinds.Token.{Token}
@@ -10,12 +10,11 @@ use Rattle.pepa_reader.specs.declared.terminal.Terminal.TheVariants.{Probe, Mark
 use Rattle.pepa_reader.specs.declared.fault.FileFault.{FileFault}
 use Rattle.pepa_reader.specs.declared.fault.FileFault.TheVariants as faults
 use Rattle.pepa_reader.specs.Terminals.{terminals, terminal_of}
-use Rattle.pepa_reader.specs.Grammar.{Probing, Line, Item, item_spelled, lines_spelled}
-use Rattle.pepa_reader.specs.FileAnswers.{most_tokens, CanGoOn, CantFollow, StandsAt, AreShort, IsInItem, BeginsProbeLine, IsRefused, IsFaultAt, Tells, IsFileFault, ReadsFile}
+use Rattle.pepa_reader.specs.Grammar.{Probing, Line, lines_spelled}
+use Rattle.pepa_reader.specs.FileAnswers.{most_tokens, CanGoOn, CantFollow, StandsAt, AreShort, IsInItem, BeginsProbeLine, IsRefused, ReadsFile}
 use Rattle.pepa_reader.specs.Machine.{State, WantEquals, IsUndone, step, run, start}
-use Rattle.pepa_reader.specs.Reading.{Begins, IsSpelled, Refuses}
-use Rattle.pepa_reader.specs.ItemReading.{IsProbeLine, TellsAt, IsCause, IsItemFault, ReadsItemAt}
-use Rattle.pepa_reader.proofs.Spelled.{spelled_nothing}
+use Rattle.pepa_reader.specs.Reading.{Begins, Refuses}
+use Rattle.pepa_reader.specs.ItemReading.{IsProbeLine, IsItemFault, ReadsItemAt}
 use Rattle.pepa_reader.proofs.Places.{begins_there}
 use Rattle.pepa_reader.proofs.ItemLaws.{begins_item, can_go_on, cant_go_on}
 
@@ -60,9 +59,14 @@ behind_stop kinds at i h terminal e =
 pub in_item : (kinds : List Terminal) (at i : ℕ) (h : Stopped kinds at i) → IsInItem kinds i (length h.text)
 in_item kinds at i h =
     let begun = begins_item h.text h.state h.ran h.undone in
-    record { lines = h.lines; short = h.short; item = begun.0;
-             before = before_stop kinds at i h ∙ ap (λ l. lines_spelled h.lines ++ l) begun.1;
-             index = omega (arith, h.from, h.index); more = begun.2 }
+    record {
+      lines = h.lines;
+      short = h.short;
+      item = begun.0;
+      before = before_stop kinds at i h ∙ ap (λ l. lines_spelled h.lines ++ l) begun.1;
+      index = omega (arith, h.from, h.index);
+      more = begun.2;
+    }
 
 refused_step : (state : State) (terminal : Terminal) (rest more : List Terminal) → rest ≡ terminal ∷ more → Refuses state rest → step state terminal ≡ None
 refused_step state terminal rest more e r = rw e at r
@@ -71,15 +75,21 @@ pub cant_follow : (kinds : List Terminal) (at i : ℕ) (h : Stopped kinds at i) 
 cant_follow kinds at i h refused =
     let terminal = get_or kinds i End in
     let e : drop i kinds ≡ terminal ∷ drop (suc i) kinds = drop-cons kinds i End h.within in
-    record { within = h.within;
-             before = subst CanGoOn (sym (before_stop kinds at i h)) (can_go_on h.lines h.text h.state h.ran h.undone);
-             behind = λ go. cant_go_on h.lines h.text h.state terminal h.ran h.undone (refused_step h.state terminal (drop i kinds) (drop (suc i) kinds) e refused) (subst CanGoOn (behind_stop kinds at i h terminal e) go) }
+    record {
+      within = h.within;
+      before = subst CanGoOn (sym (before_stop kinds at i h)) (can_go_on h.lines h.text h.state h.ran h.undone);
+      behind = λ go. cant_go_on h.lines h.text h.state terminal h.ran h.undone (refused_step h.state terminal (drop i kinds) (drop (suc i) kinds) e refused) (subst CanGoOn (behind_stop kinds at i h terminal e) go);
+    }
 
 pub is_refused : (kinds : List Terminal) (at i : ℕ) (h : Stopped kinds at i) → i ≤ at + most_tokens → i ≢ at + most_tokens → Refuses h.state (drop i kinds) → ¬ IsProbeLine kinds at i → IsRefused kinds i
 is_refused kinds at i h few not_deep refused no_line =
-    record { first = cant_follow kinds at i h refused; begun = length h.text; in_item = in_item kinds at i h;
-             few = omega (arith, h.index, λ (e : i ≡ at + most_tokens). not_deep e);
-             no_probe_line = λ before one behind stands. no_line (omega (arith, h.index), subst (λ n. StandsAt kinds n Probe) (same before one behind) stands) }
+    record {
+      first = cant_follow kinds at i h refused;
+      begun = length h.text;
+      in_item = in_item kinds at i h;
+      few = omega (arith, h.index, λ (e : i ≡ at + most_tokens). not_deep e);
+      no_probe_line = λ before one behind stands. no_line (omega (arith, h.index), subst (λ n. StandsAt kinds n Probe) (same before one behind) stands);
+    }
   where
     same : (before : ℕ) → length h.text ≡ 1 → i ≡ before + 1 → before ≡ at
     same before one behind = omega (arith, h.index)
@@ -110,24 +120,43 @@ unfolding run
 begins_probe_line kinds at i h from spelled refused line =
     let one : h.text ≡ Probe ∷ [] = one_probe h.text (drop at kinds) (drop i kinds) (omega (arith, h.index, line.0)) spelled (begins_there kinds at Probe line.1) in
     let state : h.state ≡ WantEquals Probing = same_Some h.state (WantEquals Probing) (sym h.ran ∙ ap (run start) one ∙ probe_runs) in
-    record { begins = in_item kinds at at (nothing_read kinds at i h spelled);
-             probe = line.1;
-             behind = λ stands. no_equals_behind h.state (drop i kinds) state refused (begins_there kinds i (Mark Equals) (subst (λ n. StandsAt kinds n (Mark Equals)) (sym line.0) stands)) }
+    record {
+      begins = in_item kinds at at (nothing_read kinds at i h spelled);
+      probe = line.1;
+      behind = λ stands. no_equals_behind h.state (drop i kinds) state refused (begins_there kinds i (Mark Equals) (subst (λ n. StandsAt kinds n (Mark Equals)) (sym line.0) stands));
+    }
   where
     nothing_read : (kinds : List Terminal) (at i : ℕ) (h : Stopped kinds at i) → drop at kinds ≡ h.text ++ drop i kinds → Stopped kinds at at
     nothing_read kinds at i h spelled =
-        record { lines = h.lines; short = h.short; text = []; state = start;
-                 whole = h.whole ∙ append_assoc (lines_spelled h.lines) h.text (drop i kinds) ∙ ap (λ l. lines_spelled h.lines ++ l) (sym spelled) ∙ ap (λ l. l ++ drop at kinds) (sym (append-nil (lines_spelled h.lines)));
-                 from = h.from; index = omega arith; ran = refl; undone = tt; within = omega (arith, h.within, h.index) }
+        record {
+          lines = h.lines;
+          short = h.short;
+          text = [];
+          state = start;
+          whole = h.whole ∙ append_assoc (lines_spelled h.lines) h.text (drop i kinds) ∙ ap (λ l. lines_spelled h.lines ++ l) (sym spelled) ∙ ap (λ l. l ++ drop at kinds) (sym (append-nil (lines_spelled h.lines)));
+          from = h.from;
+          index = omega arith;
+          ran = refl;
+          undone = tt;
+          within = omega (arith, h.within, h.index);
+        }
 
 -- ---- faults
 
 stopped : (input : List ℕ) (tokens : List Token) (at : ℕ) (lines : List Line) (fault : FileFault) → AreShort lines → terminals input tokens ≡ lines_spelled lines ++ drop at (terminals input tokens) → at ≡ length (lines_spelled lines) → (h : IsItemFault input tokens at fault) → Stopped (terminals input tokens) at h.i
 stopped input tokens at lines fault short whole from h =
-    record { lines = lines; short = short; text = h.text; state = h.state;
-             whole = whole ∙ ap (λ l. lines_spelled lines ++ l) h.spelled.whole ∙ sym (append_assoc (lines_spelled lines) h.text (drop h.i (terminals input tokens)));
-             from = from; index = h.spelled.index; ran = h.ran; undone = h.undone;
-             within = omega (arith, h.within, length-map tokens (terminal_of input)) }
+    record {
+      lines = lines;
+      short = short;
+      text = h.text;
+      state = h.state;
+      whole = whole ∙ ap (λ l. lines_spelled lines ++ l) h.spelled.whole ∙ sym (append_assoc (lines_spelled lines) h.text (drop h.i (terminals input tokens)));
+      from = from;
+      index = h.spelled.index;
+      ran = h.ran;
+      undone = h.undone;
+      within = omega (arith, h.within, length-map tokens (terminal_of input));
+    }
 
 -- a fault of an item is the file's
 pub file_fails : (input : List ℕ) (tokens : List Token) (at : ℕ) (lines : List Line) (fault : FileFault) → AreShort lines → terminals input tokens ≡ lines_spelled lines ++ drop at (terminals input tokens) → at ≡ length (lines_spelled lines) → ReadsItemAt input tokens at (Err fault) → ReadsFile input tokens (Err fault)

@@ -1,8 +1,8 @@
 -- What has been read of a file: its lines so far, and then the whole of it.
-use Rattle.std.proofs.Common.{◌≡◌, ◌≢◌, ℕ, ◌+◌, ◌<◌, ◌≤◌, List, [], ◌∷◌, ◌++◌, length, map, drop, refl, sym, ap, subst, ◌∙◌, append_assoc, append-nil, length-append, arith, Ok, Err}
-use Rattle.std.specs.List.{AllByRecursion, flat_map}
+use Rattle.std.proofs.Common.{◌≡◌, ◌≢◌, ℕ, ◌+◌, ◌<◌, ◌≤◌, List, [], ◌∷◌, ◌++◌, length, map, drop, refl, sym, ap, ◌∙◌, append_assoc, append-nil, length-append, arith, Ok, Err}
+use Rattle.std.specs.List.{AllByRecursion}
 use Rattle.std.proofs.lemmas.Grind.{flat_map-append}
-use Rattle.std.proofs.lemmas.List.{map-append, length-drop, length-map}
+use Rattle.std.proofs.lemmas.List.{map-append, length-map}
 use Rattle.std.proofs.Math.ListN.{drop_of_length-le}
 use Rattle.pepa_lexer.specs.declared.kinds.Token.{Token}
 use Rattle.pepa_lexer.specs.declared.kinds.Sign.TheVariants.{Equals, Semicolon}
@@ -12,17 +12,15 @@ use Rattle.pepa_reader.specs.declared.trees.RateLine.{RateLine}
 use Rattle.pepa_reader.specs.declared.trees.ProcessLine.{ProcessLine}
 use Rattle.pepa_reader.specs.declared.trees.ProcessTree.{ProcessTree}
 use Rattle.pepa_reader.specs.declared.trees.FileTree.{FileTree}
-use Rattle.pepa_reader.specs.declared.items.Item.{Item}
 use Rattle.pepa_reader.specs.declared.items.Item.TheVariants.{Rate, Process, System}
-use Rattle.pepa_reader.specs.declared.items.ItemRead.{ItemRead}
 use Rattle.pepa_reader.specs.declared.fault.FileFault.{FileFault}
 use Rattle.pepa_reader.specs.Terminals.{terminals, terminal_of}
 use Rattle.pepa_reader.specs.Grammar as g
 use Rattle.pepa_reader.specs.Grammar.{Line, RateNamed, ProcessNamed, Ending, Open, Closed, OneLine, small_spelled, rate_spelled, process_spelled, ending_spelled, line_spelled, lines_spelled, item_spelled}
-use Rattle.pepa_reader.specs.Trees.{RateNode, ProcessNode, RateLineNode, ProcessLineNode, FileNode, rate_node_of, rate_tree, process_tree, rate_line_of, process_line_of, process_node_of, rate_lines_from, process_lines_from, file_node_of, file_tree}
+use Rattle.pepa_reader.specs.Trees.{RateNode, ProcessNode, RateLineNode, ProcessLineNode, FileNode, rate_node_of, rate_tree, process_tree, rate_line_of, process_line_of, process_node_of, rate_lines_from, process_lines_from}
 use Rattle.pepa_reader.specs.FileAnswers.{most_tokens, AreShort, IsFileTree, ReadsFile}
 use Rattle.pepa_reader.specs.Reading.{IsSpelled}
-use Rattle.pepa_reader.specs.ItemReading.{IsEnded, IsItem, IsItemRead, ReadsItemAt}
+use Rattle.pepa_reader.specs.ItemReading.{IsEnded, IsItem, ReadsItemAt}
 use Rattle.pepa_reader.proofs.FaultReading.{file_fails}
 
 -- ---- one more line
@@ -107,6 +105,7 @@ line_inside kinds at next lines line ended whole spelled = omega (arith, λ (pas
   where
     other : Mark Semicolon ≡ End → ⊥
     other e = cc
+
     at_end : length kinds ≤ next → kinds ≡ (lines_spelled lines ++ (line_front line).0) ++ Mark Semicolon ∷ []
     at_end past =
         whole ∙ ap (λ l. lines_spelled lines ++ l) (spelled.whole ∙ ap (λ l. line_spelled line ++ l) (drop_of_length-le kinds past) ∙ append-nil (line_spelled line) ∙ (line_front line).1)
@@ -132,12 +131,17 @@ rate_more kinds at next rates processes line (OneLine (RateNamed name rate)) h e
     let len = 0 + length (lines_spelled h.lines) in
     let front : at ≡ len = omega (arith, h.from) in
     let this : rate_line_of line ≡ rate_node len (rate_tree (len + 2) rate) =
-        ap (λ n. rate_node n (rate_node_of line.rate)) is.0 ∙ ap (rate_node at) is.1 ∙ ap (λ n. rate_node n (rate_tree (n + 2) rate)) front in
-    ( record { lines = h.lines ++ added ∷ []; short = short_more h.lines added h.short (omega (arith, few, spelled.index));
-               whole = more_whole kinds at next h.lines added h.whole spelled; from = more_from at next kinds h.lines added h.from spelled;
-               rates_are = map-append rate_line_of rates (line ∷ []) ∙ ap (λ l. l ++ rate_line_of line ∷ []) h.rates_are ∙ ap (λ n. rate_lines_from 0 h.lines ++ n ∷ []) this ∙ sym (rates_more 0 h.lines added);
-               processes_are = h.processes_are ∙ sym (processes_more 0 h.lines added ∙ append-nil (process_lines_from 0 h.lines)) }
-    , line_inside kinds at next h.lines added ended h.whole spelled )
+    ap (λ n. rate_node n (rate_node_of line.rate)) is.0 ∙ ap (rate_node at) is.1 ∙ ap (λ n. rate_node n (rate_tree (n + 2) rate)) front in (
+      record {
+        lines = h.lines ++ added ∷ [];
+        short = short_more h.lines added h.short (omega (arith, few, spelled.index));
+        whole = more_whole kinds at next h.lines added h.whole spelled;
+        from = more_from at next kinds h.lines added h.from spelled;
+        rates_are = map-append rate_line_of rates (line ∷ []) ∙ ap (λ l. l ++ rate_line_of line ∷ []) h.rates_are ∙ ap (λ n. rate_lines_from 0 h.lines ++ n ∷ []) this ∙ sym (rates_more 0 h.lines added);
+        processes_are = h.processes_are ∙ sym (processes_more 0 h.lines added ∙ append-nil (process_lines_from 0 h.lines));
+      },
+      line_inside kinds at next h.lines added ended h.whole spelled,
+    )
 rate_more kinds at next rates processes line _ h ended spelled is few = absurd is
 
 -- a process line more
@@ -148,12 +152,17 @@ process_more kinds at next rates processes line (OneLine (ProcessNamed process))
     let len = 0 + length (lines_spelled h.lines) in
     let front : at ≡ len = omega (arith, h.from) in
     let this : process_line_of line ≡ process_node len (process_tree (len + 2) process) =
-        ap (λ n. process_node n (process_node_of line.body)) is.0 ∙ ap (process_node at) is.1 ∙ ap (λ n. process_node n (process_tree (n + 2) process)) front in
-    ( record { lines = h.lines ++ added ∷ []; short = short_more h.lines added h.short (omega (arith, few, spelled.index));
-               whole = more_whole kinds at next h.lines added h.whole spelled; from = more_from at next kinds h.lines added h.from spelled;
-               rates_are = h.rates_are ∙ sym (rates_more 0 h.lines added ∙ append-nil (rate_lines_from 0 h.lines));
-               processes_are = map-append process_line_of processes (line ∷ []) ∙ ap (λ l. l ++ process_line_of line ∷ []) h.processes_are ∙ ap (λ n. process_lines_from 0 h.lines ++ n ∷ []) this ∙ sym (processes_more 0 h.lines added) }
-    , line_inside kinds at next h.lines added ended h.whole spelled )
+    ap (λ n. process_node n (process_node_of line.body)) is.0 ∙ ap (process_node at) is.1 ∙ ap (λ n. process_node n (process_tree (n + 2) process)) front in (
+      record {
+        lines = h.lines ++ added ∷ [];
+        short = short_more h.lines added h.short (omega (arith, few, spelled.index));
+        whole = more_whole kinds at next h.lines added h.whole spelled;
+        from = more_from at next kinds h.lines added h.from spelled;
+        rates_are = h.rates_are ∙ sym (rates_more 0 h.lines added ∙ append-nil (rate_lines_from 0 h.lines));
+        processes_are = map-append process_line_of processes (line ∷ []) ∙ ap (λ l. l ++ process_line_of line ∷ []) h.processes_are ∙ ap (λ n. process_lines_from 0 h.lines ++ n ∷ []) this ∙ sym (processes_more 0 h.lines added);
+      },
+      line_inside kinds at next h.lines added ended h.whole spelled,
+    )
 process_more kinds at next rates processes line _ h ended spelled is few = absurd is
 
 -- behind the system nothing stands
@@ -162,7 +171,7 @@ system_ends kinds at next lines process ending ended whole spelled =
     let end = ending_front ending in
     let rest = drop next kinds in
     only_end ended.0 (lines_spelled lines ++ (process_spelled process ++ end.0)) rest ended.2
-      (sym ended.1 ∙ whole ∙ ap (λ l. lines_spelled lines ++ l) (spelled.whole ∙ ap (λ l. (process_spelled process ++ l) ++ rest) end.1) ∙ simp append_assoc)
+    (sym ended.1 ∙ whole ∙ ap (λ l. lines_spelled lines ++ l) (spelled.whole ∙ ap (λ l. (process_spelled process ++ l) ++ rest) end.1) ∙ simp append_assoc)
 
 file_node : List RateLineNode → List ProcessLineNode → ProcessNode → FileNode
 file_node rates processes system = record { rates = rates; processes = processes; system = system }
@@ -174,10 +183,13 @@ same_parts a b c d p q e f h = ap (λ x. file_node x c p) e ∙ ap (λ x. file_n
 is_file : (kinds : List Terminal) (at next : ℕ) (file : FileTree) (item : g.Item) → ReadSoFar kinds at file.rates file.processes → IsEnded kinds → IsSpelled kinds at next (item_spelled item) → IsItem at (System file.system) item → next ≤ at + most_tokens → IsFileTree kinds file
 unfolding file_node
 is_file kinds at next file (g.System process ending) h ended spelled is few =
-    record { file = record { lines = h.lines; system = process; ending = ending };
-             spelled = h.whole ∙ ap (λ l. lines_spelled h.lines ++ l) (spelled.whole ∙ ap (λ l. item_spelled (g.System process ending) ++ l) (system_ends kinds at next h.lines process ending ended h.whole spelled) ∙ append-nil (item_spelled (g.System process ending)));
-             short = h.short; short_system = omega (arith, few, spelled.index);
-             tree_is = same_parts _ _ _ _ _ _ h.rates_are h.processes_are (is ∙ ap (λ n. process_tree n process) h.from) }
+    record {
+      file = record { lines = h.lines; system = process; ending = ending };
+      spelled = h.whole ∙ ap (λ l. lines_spelled h.lines ++ l) (spelled.whole ∙ ap (λ l. item_spelled (g.System process ending) ++ l) (system_ends kinds at next h.lines process ending ended h.whole spelled) ∙ append-nil (item_spelled (g.System process ending)));
+      short = h.short;
+      short_system = omega (arith, few, spelled.index);
+      tree_is = same_parts _ _ _ _ _ _ h.rates_are h.processes_are (is ∙ ap (λ n. process_tree n process) h.from);
+    }
 is_file kinds at next file _ h ended spelled is few = absurd is
 
 -- ---- the steps of the loop

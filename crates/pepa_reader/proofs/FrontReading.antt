@@ -1,11 +1,10 @@
 -- What is read of the first tokens is read of them all.
-use Rattle.std.proofs.Common.{◌≡◌, ◌≢◌, ℕ, zero, suc, ◌+◌, ◌-◌, ◌<◌, ◌≤◌, min, List, [], ◌∷◌, ◌++◌, length, map, take, drop, refl, sym, ap, subst, ◌∙◌, append_assoc, append-nil, length-append, arith, Some, None}
-use Rattle.std.specs.List.{AllByRecursion}
+use Rattle.std.proofs.Common.{◌≡◌, ◌≢◌, ℕ, zero, suc, ◌+◌, ◌-◌, ◌<◌, ◌≤◌, min, List, [], ◌∷◌, ◌++◌, length, take, drop, refl, sym, ap, subst, ◌∙◌, append_assoc, append-nil, length-append, arith, Some}
 use Rattle.std.proofs.lemmas.List.{take-append-drop, length-drop, length-take-le, length-map, take-map}
 use Rattle.std.proofs.Math.ListN.{drop_of_length-le}
 use Rattle.pepa_reader.specs.declared.terminal.Terminal.{Terminal}
 use Rattle.pepa_reader.specs.declared.terminal.Terminal.TheVariants.{End}
-use Rattle.pepa_reader.specs.Machine.{State, IsUndone, step, run, start}
+use Rattle.pepa_reader.specs.Machine.{State, IsUndone, run, start}
 use Rattle.pepa_reader.specs.Grammar.{item_spelled}
 use Rattle.pepa_reader.specs.FileAnswers.{most_tokens}
 use Rattle.pepa_reader.specs.Terminals.{terminals, terminal_of}
@@ -31,8 +30,10 @@ ends_in_front kinds n at next text within short h =
 
 pub spelled_in_front : (kinds : List Terminal) (n at next : ℕ) (text : List Terminal) → at ≤ n → next ≤ n → IsSpelled (take n kinds) at next text → IsSpelled kinds at next text
 spelled_in_front kinds n at next text within behind h =
-    record { whole = drop_front kinds at n within ∙ ap (λ l. l ++ drop n kinds) h.whole ∙ append_assoc text (drop next (take n kinds)) (drop n kinds) ∙ ap (λ l. text ++ l) (sym (drop_front kinds next n behind));
-             index = h.index }
+    record {
+      whole = drop_front kinds at n within ∙ ap (λ l. l ++ drop n kinds) h.whole ∙ append_assoc text (drop next (take n kinds)) (drop n kinds) ∙ ap (λ l. text ++ l) (sym (drop_front kinds next n behind));
+      index = h.index;
+    }
 
 refuses_longer : (state : State) (front back : List Terminal) → 0 < length front → Refuses state front → Refuses state (front ++ back)
 refuses_longer state [] back some r = absurd (omega arith)
@@ -55,6 +56,7 @@ stops_inside kinds at i text state ended within h ran undone = omega (arith, λ 
   where
     inside : at ≤ length ended.0
     inside = omega (arith, ap length ended.1, length-append ended.0 (End ∷ []))
+
     ran_to_end : length kinds ≤ i → run start (drop at ended.0 ++ End ∷ []) ≡ Some state
     ran_to_end past = ap (run start) (sym (drop_in_left ended.0 (End ∷ []) at inside) ∙ ap (drop at) (sym ended.1) ∙ h.whole ∙ ap (λ l. text ++ l) (drop_of_length-le kinds past) ∙ append-nil text) ∙ ran
 
@@ -92,9 +94,18 @@ fault_in_front input tokens few at n i fault front room inside ended h cause =
     let same = front_kinds input tokens few n front in
     let spelled = subst (λ l. IsSpelled l at i h.text) same h.spelled in
     let refused = subst (λ l. Refuses h.state (drop i l)) same h.refused in
-    record { i = i; state = h.state; text = h.text; spelled = spelled_in_front kinds n at i h.text within stop.0 spelled; ran = h.ran; undone = h.undone;
-             refused = λ not_deep. refuses_in_front kinds n i h.state (before_end not_deep stop.0 stop.1) (omega arith) refused;
-             within = stop.1; few = omega (arith, stop.0); cause = cause }
+    record {
+      i = i;
+      state = h.state;
+      text = h.text;
+      spelled = spelled_in_front kinds n at i h.text within stop.0 spelled;
+      ran = h.ran;
+      undone = h.undone;
+      refused = λ not_deep. refuses_in_front kinds n i h.state (before_end not_deep stop.0 stop.1) (omega arith) refused;
+      within = stop.1;
+      few = omega (arith, stop.0);
+      cause = cause;
+    }
   where
     before_end : i ≢ at + most_tokens → i ≤ n → i < length tokens → i < n
     before_end not_deep behind before = omega (arith, room, λ (e : i ≡ at + most_tokens). not_deep e)

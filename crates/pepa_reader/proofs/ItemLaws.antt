@@ -1,7 +1,6 @@
 -- What the machine shows of the grammar: an unfinished item can go on, what the machine refuses can't stand there, and terminals
 -- spell one item, or one file, at most.
-use Rattle.std.proofs.Common.{◌≡◌, ℕ, ◌+◌, ◌<◌, List, [], ◌∷◌, ◌++◌, length, take, Option, Some, None, option_and_then, ◌⊎◌, inl, inr, refl, ap, sym, subst, ◌∙◌, append_assoc, append-nil, length-append, arith}
-use Rattle.std.specs.List.{flat_map}
+use Rattle.std.proofs.Common.{◌≡◌, ◌<◌, List, [], ◌∷◌, ◌++◌, length, take, Some, None, option_and_then, ◌⊎◌, inl, inr, refl, ap, sym, subst, ◌∙◌, append_assoc, append-nil, length-append, arith}
 use Rattle.std.proofs.lemmas.Option.{same_Some, option_and_then_some}
 use Rattle.std.proofs.lemmas.List.{append_cancel_left}
 use Rattle.std.proofs.lemmas.Grind.{flat_map-append}
@@ -10,9 +9,9 @@ use Rattle.pepa_reader.specs.declared.terminal.Terminal.{Terminal}
 use Rattle.pepa_reader.specs.declared.terminal.Terminal.TheVariants.{Capital, End}
 use Rattle.pepa_reader.specs.Grammar.{Process, OneChoice, OneHidden, OnePrefix, Constant, Line, Ending, Open, Item, OneLine, System, File, line_spelled, item_spelled, lines_spelled, file_spelled}
 use Rattle.pepa_reader.specs.Machine.{State, Done, step, run, start, IsUndone}
-use Rattle.pepa_reader.specs.FileAnswers.{IsFile, CanGoOn}
-use Rattle.pepa_reader.proofs.MachineRuns.{run-append, run_along, run_step, item_runs}
-use Rattle.pepa_reader.proofs.MachineTexts.{text_of_state, run_reads}
+use Rattle.pepa_reader.specs.FileAnswers.{CanGoOn}
+use Rattle.pepa_reader.proofs.MachineRuns.{run-append, run_along, item_runs}
+use Rattle.pepa_reader.proofs.MachineTexts.{run_reads}
 use Rattle.pepa_reader.proofs.MachineEnds.{ends, end_ends}
 
 -- ---- fronts of one list
@@ -31,6 +30,7 @@ one_front (t ∷ a) (u ∷ b) x y e = elim (one_front a b x y (cc)) [ inl h ↦ 
   where
     joined_left : (d : List Terminal) → b ≡ a ++ d → u ∷ b ≡ (t ∷ a) ++ d
     joined_left d l = cc
+
     joined_right : (d : List Terminal) → a ≡ b ++ d → t ∷ a ≡ (u ∷ b) ++ d
     joined_right d l = cc
 
@@ -78,6 +78,7 @@ completed text state ran undone = go (ends state undone).0 (ends state undone).1
     some_more : (more : List Terminal) (item : Item) → run state more ≡ Some (Done item) → 0 < length more
     some_more [] item h = absurd (not_done state item undone (same_Some state (Done item) h))
     some_more (terminal ∷ more) item h = omega arith
+
     go : (more : List Terminal) (item : Item) → run state more ≡ Some (Done item) → Completed text
     go more item h = record { item = item; more = more; spelled = run_reads (text ++ more) (Done item) (run_along start state text more ran ∙ h); some = some_more more item h }
 
@@ -89,17 +90,23 @@ begins_item text state ran undone =
 
 -- behind a line a system can stand, and behind a system nothing
 item_goes_on : (lines : List Line) (item : Item) (text more : List Terminal) → item_spelled item ≡ text ++ more → CanGoOn (lines_spelled lines ++ text)
-item_goes_on lines (OneLine line) text more e =
-    ( more ++ Capital ∷ End ∷ []
-    , ( record { lines = lines ++ line ∷ []; system = OneChoice (OneHidden (OnePrefix Constant)); ending = Open }
-      , append_assoc (lines_spelled lines) text (more ++ Capital ∷ End ∷ [])
+item_goes_on lines (OneLine line) text more e = (
+  more ++ Capital ∷ End ∷ [],
+  (
+    record { lines = lines ++ line ∷ []; system = OneChoice (OneHidden (OnePrefix Constant)); ending = Open },
+    append_assoc (lines_spelled lines) text (more ++ Capital ∷ End ∷ [])
         ∙ ap (λ l. lines_spelled lines ++ l) (sym (append_assoc text more (Capital ∷ End ∷ [])) ∙ ap (λ l. l ++ Capital ∷ End ∷ []) (sym e ∙ sym (append-nil (line_spelled line))))
         ∙ sym (append_assoc (lines_spelled lines) (line_spelled line ++ []) (Capital ∷ End ∷ []))
-        ∙ ap (λ l. l ++ Capital ∷ End ∷ []) (sym (flat_map-append line_spelled lines (line ∷ []))) ) )
-item_goes_on lines (System process ending) text more e =
-    ( more
-    , ( record { lines = lines; system = process; ending = ending }
-      , append_assoc (lines_spelled lines) text more ∙ ap (λ l. lines_spelled lines ++ l) (sym e) ) )
+        ∙ ap (λ l. l ++ Capital ∷ End ∷ []) (sym (flat_map-append line_spelled lines (line ∷ []))),
+  ),
+)
+item_goes_on lines (System process ending) text more e = (
+  more,
+  (
+    record { lines = lines; system = process; ending = ending },
+    append_assoc (lines_spelled lines) text more ∙ ap (λ l. lines_spelled lines ++ l) (sym e),
+  ),
+)
 
 -- lines and a begun item can be continued to a file
 pub can_go_on : (lines : List Line) (text : List Terminal) (state : State) → run start text ≡ Some state → IsUndone state → CanGoOn (lines_spelled lines ++ text)
@@ -117,6 +124,7 @@ refused text state terminal more item rest ran undone none e = elim (one_front t
       where
         none_made : None ≡ Some (Done item) → ⊥
         none_made h' = cc
+
     longer : (d : List Terminal) → item_spelled item ≡ text ++ d → terminal ∷ more ≡ d ++ rest → ⊥
     longer [] l b = not_done state item undone (same_Some state (Done item) (sym ran ∙ ap (run start) (sym (append-nil text) ∙ sym l) ∙ item_runs item))
     longer (t ∷ d) l b = no_step d (sym (run_along start state text (terminal ∷ d) ran) ∙ ap (λ u. run start (text ++ u ∷ d)) same ∙ ap (run start) (sym l) ∙ item_runs item)
@@ -144,16 +152,16 @@ cant_go_on lines text state terminal ran undone none go =
     let more = go.0 in
     let file = go.1.0 in
     no_file lines file.lines file.system file.ending text state terminal more ran undone none
-      (ap (λ l. lines_spelled lines ++ l) (sym (append_assoc text (terminal ∷ []) more)) ∙ sym (append_assoc (lines_spelled lines) (text ++ terminal ∷ []) more) ∙ go.1.1)
+    (ap (λ l. lines_spelled lines ++ l) (sym (append_assoc text (terminal ∷ []) more)) ∙ sym (append_assoc (lines_spelled lines) (text ++ terminal ∷ []) more) ∙ go.1.1)
 
 -- the end of the text ends an item
 pub no_end_inside : (text : List Terminal) (state : State) → run start (text ++ End ∷ []) ≡ Some state → ¬ IsUndone state
 unfolding run
 no_end_inside text state ran undone =
     option_and_then_some (λ next. run next (End ∷ [])) (run start text) state (sym (run-append start text (End ∷ [])) ∙ ran) (λ mid came last.
-        option_and_then_some (λ next. Some next) (step mid End) state last (λ next made same.
-            let ended = end_ends mid next made in
-            not_done state ended.0 undone (sym (same_Some next state same) ∙ ended.1)))
+    option_and_then_some (λ next. Some next) (step mid End) state last (λ next made same.
+    let ended = end_ends mid next made in
+    not_done state ended.0 undone (sym (same_Some next state same) ∙ ended.1)))
 
 -- ---- files
 

@@ -1,19 +1,18 @@
 -- What the readers of lines answer.
-use Rattle.std.proofs.Common.{◌≡◌, ℕ, ◌+◌, List, [], ◌∷◌, ◌++◌, length, drop, refl, sym, ap, ◌∙◌, Some, None, Ok, Err, arith}
+use Rattle.std.proofs.Common.{◌≡◌, ℕ, ◌+◌, List, [], ◌∷◌, drop, refl, ap, ◌∙◌, Some, None, Err, arith}
 use Rattle.pepa_lexer.specs.declared.kinds.Sign.TheVariants.{Equals, Semicolon}
 use Rattle.pepa_reader.specs.declared.terminal.Terminal.{Terminal}
 use Rattle.pepa_reader.specs.declared.terminal.Terminal.TheVariants.{Capital, Mark}
 use Rattle.pepa_reader.specs.declared.fault.PartFault.{PartFault}
 use Rattle.pepa_reader.specs.declared.fault.PartFault.TheVariants.{Refused, Memory}
 use Rattle.pepa_reader.specs.declared.rates.RateRead.{RateRead}
-use Rattle.pepa_reader.specs.declared.trees.RateLine.{RateLine}
 use Rattle.pepa_reader.specs.declared.items.Item.TheVariants.{Rate}
 use Rattle.pepa_reader.specs.declared.items.Item.TheVariants as items
 use Rattle.pepa_reader.specs.declared.processes.ProcessRead.{ProcessRead}
 use Rattle.pepa_reader.specs.Grammar.{SmallName, Plain, Probing, small_spelled, OneLine, RateNamed, ProcessNamed}
 use Rattle.pepa_reader.specs.Trees.{rate_tree, process_tree}
 use Rattle.pepa_reader.specs.Machine.{InLine, Whole, OfLine, Want, WantEquals, WantFactor, step, run, start, behind_rate, behind_process}
-use Rattle.pepa_reader.specs.Reading.{Begins, IsSpelled, IsAt, Expects, Refuses, IsRate, ReadsRate, EndsProcess, IsProcess, ReadsProcess}
+use Rattle.pepa_reader.specs.Reading.{Begins, IsAt, Expects, Refuses, IsRate, ReadsRate, EndsProcess, IsProcess, ReadsProcess}
 use Rattle.pepa_reader.specs.ItemReading.{IsLineHead, ReadsItem, IsItemRead}
 use Rattle.pepa_reader.proofs.Spelled.{spelled_append, stops_here, stops_behind}
 use Rattle.pepa_reader.proofs.MachineRuns.{rate_runs, process_runs}
@@ -60,9 +59,11 @@ rate_line_stays kinds at equals from name read Memory named is_equals rate e = t
 pub is_rate_line : (kinds : List Terminal) (at equals from next : ℕ) (name : SmallName) (read : RateRead) → IsAt kinds at equals (small_spelled name) → IsAt kinds equals from (Mark Equals) → IsRate kinds from read → IsAt kinds read.next next (Mark Semicolon) → IsItemRead kinds at (record { item = Rate (record { at = at; rate = read.tree }); next = next })
 is_rate_line kinds at equals from next name read named is_equals rate closing =
     let front : from ≡ at + 2 = omega (arith, named.spelled.index, is_equals.spelled.index) in
-    record { item = OneLine (RateNamed name rate.rate);
-             spelled = spelled_append named.spelled (spelled_append is_equals.spelled (spelled_append rate.spelled closing.spelled));
-             tree = (refl, rate.tree ∙ ap (λ n. rate_tree n rate.rate) front) }
+    record {
+      item = OneLine (RateNamed name rate.rate);
+      spelled = spelled_append named.spelled (spelled_append is_equals.spelled (spelled_append rate.spelled closing.spelled));
+      tree = (refl, rate.tree ∙ ap (λ n. rate_tree n rate.rate) front);
+    }
 
 -- ---- process lines
 
@@ -84,6 +85,8 @@ process_line_stays kinds at from read Memory head process ends e = tt
 pub is_process_line : (kinds : List Terminal) (at from next : ℕ) (read : ProcessRead) → IsLineHead kinds at from → IsProcess kinds from read → IsAt kinds read.next next (Mark Semicolon) → IsItemRead kinds at (record { item = items.Process (record { at = at; body = read.tree }); next = next })
 is_process_line kinds at from next read head process closing =
     let front : from ≡ at + 2 = omega (arith, head.index) in
-    record { item = OneLine (ProcessNamed process.process);
-             spelled = spelled_append head (spelled_append process.spelled closing.spelled);
-             tree = (refl, process.tree ∙ ap (λ n. process_tree n process.process) front) }
+    record {
+      item = OneLine (ProcessNamed process.process);
+      spelled = spelled_append head (spelled_append process.spelled closing.spelled);
+      tree = (refl, process.tree ∙ ap (λ n. process_tree n process.process) front);
+    }

@@ -42,14 +42,14 @@ after_hidden_ends InSystem hidden chosen joining = step_ends (After hidden chose
 after_hidden_ends (InBrackets pending chosen' joining' outer) hidden chosen joining =
     let grouped : Prefix = Grouped (whole_process joining chosen hidden) in
     step_ends (After hidden chosen joining (InBrackets pending chosen' joining' outer)) (after pending grouped chosen' joining' outer) (Mark Closing) refl
-      (subst Ends (sym (after_is pending grouped chosen' joining' outer)) (after_hidden_ends outer (OnePrefix (around pending grouped)) chosen' joining'))
+    (subst Ends (sym (after_is pending grouped chosen' joining' outer)) (after_hidden_ends outer (OnePrefix (around pending grouped)) chosen' joining'))
 
 -- a constant ends what wants a prefix
 want_ends : (pending : List Pending) (chosen : ChosenSoFar) (joining : Option Joining) (outer : Outer) → Ends (Want pending chosen joining outer)
 unfolding step
 want_ends pending chosen joining outer =
     step_ends (Want pending chosen joining outer) (after pending Constant chosen joining outer) Capital refl
-      (subst Ends (sym (after_is pending Constant chosen joining outer)) (after_hidden_ends outer (OnePrefix (around pending Constant)) chosen joining))
+    (subst Ends (sym (after_is pending Constant chosen joining outer)) (after_hidden_ends outer (OnePrefix (around pending Constant)) chosen joining))
 
 -- the point, and then a prefix
 want_dot_ends : (word : Word) (rate : Rate) (pending : List Pending) (chosen : ChosenSoFar) (joining : Option Joining) (outer : Outer) → Ends (WantDot word rate pending chosen joining outer)
@@ -67,7 +67,7 @@ unfolding step
 after_factor_ends (Whole place) factor summing multiplying = place_ends (AfterFactor factor summing multiplying (Whole place)) (Computed (whole_sum summing multiplying factor)) place (closes_after_factor factor summing multiplying place)
 after_factor_ends (InRateBrackets summing' multiplying' outer) factor summing multiplying =
     step_ends (AfterFactor factor summing multiplying (InRateBrackets summing' multiplying' outer)) (AfterFactor (Bracketed (whole_sum summing multiplying factor)) summing' multiplying' outer) (Mark Closing) refl
-      (after_factor_ends outer (Bracketed (whole_sum summing multiplying factor)) summing' multiplying')
+    (after_factor_ends outer (Bracketed (whole_sum summing multiplying factor)) summing' multiplying')
 
 -- an amount ends what wants a factor
 want_factor_ends : (summing : Option Summing) (multiplying : Option Multiplying) (outer : RateOuter) → Ends (WantFactor summing multiplying outer)

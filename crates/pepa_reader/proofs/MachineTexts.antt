@@ -260,9 +260,9 @@ unfolding run
 run_adds [] from state met h = sym (ap text_of_state (same_Some from state h)) ∙ sym (append-nil (text_of_state from))
 run_adds (terminal ∷ more) from state met h =
     option_and_then_some (λ next. run next more) (step from terminal) state h (λ next made ran.
-        run_adds more next state (step_keeps from terminal next met made) ran
-        ∙ ap (λ l. l ++ more) (step_reads from terminal next met made)
-        ∙ append_assoc (text_of_state from) (terminal ∷ []) more)
+    run_adds more next state (step_keeps from terminal next met made) ran
+    ∙ ap (λ l. l ++ more) (step_reads from terminal next met made)
+    ∙ append_assoc (text_of_state from) (terminal ∷ []) more)
 
 -- from the start, what has been read is the text
 pub run_reads : (text : List Terminal) (state : State) → run start text ≡ Some state → text_of_state state ≡ text

@@ -45,8 +45,8 @@ dot_runs word rate pending chosen joining outer = refl
 pub no_comma : (kinds : List Terminal) (at comma : ℕ) (word : Word) (fault : PartFault) → IsSpelled kinds at comma (Mark Opening ∷ word_spelled word ∷ []) → Expects kinds comma (Mark Comma) (Err fault) → ReadsActivity kinds at (Err fault)
 no_comma kinds at comma word (Refused i) front e =
     rw e.0 (λ pending chosen joining outer.
-        stops_behind (Want pending chosen joining outer) (WantComma word pending chosen joining outer) front (opening_word_runs word pending chosen joining outer)
-        (stops_here tt (refuses_comma word pending chosen joining outer (drop comma kinds) e.1)))
+    stops_behind (Want pending chosen joining outer) (WantComma word pending chosen joining outer) front (opening_word_runs word pending chosen joining outer)
+    (stops_here tt (refuses_comma word pending chosen joining outer (drop comma kinds) e.1)))
 no_comma kinds at comma word Memory front e = tt
 
 -- what stops in the rate of an activity stops in the activity
@@ -63,20 +63,20 @@ activity_rate_fails kinds at comma start word Memory front is_comma rate = tt
 pub activity_stays_open : (kinds : List Terminal) (at comma start : ℕ) (word : Word) (read : RateRead) (fault : PartFault) → IsSpelled kinds at comma (Mark Opening ∷ word_spelled word ∷ []) → IsAt kinds comma start (Mark Comma) → IsRate kinds start read → Expects kinds read.next (Mark Closing) (Err fault) → ReadsActivity kinds at (Err fault)
 activity_stays_open kinds at comma start word read (Refused i) front is_comma rate e =
     rw e.0 (λ pending chosen joining outer.
-        let place : RatePlace = OfActivity word pending chosen joining outer in
-        stops_in_rate kinds at comma start read.next word pending chosen joining outer front is_comma
-        (stops_behind (WantFactor None None (Whole place)) (behind_rate rate.rate place) rate.spelled (rate_runs rate.rate place)
-        (stops_here (undone_behind_rate rate.rate place) (refuses_behind_rate rate.rate place (drop read.next kinds) rate.ends e.1))))
+    let place : RatePlace = OfActivity word pending chosen joining outer in
+    stops_in_rate kinds at comma start read.next word pending chosen joining outer front is_comma
+    (stops_behind (WantFactor None None (Whole place)) (behind_rate rate.rate place) rate.spelled (rate_runs rate.rate place)
+    (stops_here (undone_behind_rate rate.rate place) (refuses_behind_rate rate.rate place (drop read.next kinds) rate.ends e.1))))
 activity_stays_open kinds at comma start word read Memory front is_comma rate e = tt
 
 pub no_dot : (kinds : List Terminal) (at comma start dot : ℕ) (word : Word) (read : RateRead) (fault : PartFault) → IsSpelled kinds at comma (Mark Opening ∷ word_spelled word ∷ []) → IsAt kinds comma start (Mark Comma) → IsRate kinds start read → IsAt kinds read.next dot (Mark Closing) → Expects kinds dot (Mark Dot) (Err fault) → ReadsActivity kinds at (Err fault)
 no_dot kinds at comma start dot word read (Refused i) front is_comma rate closing e =
     rw e.0 (λ pending chosen joining outer.
-        let place : RatePlace = OfActivity word pending chosen joining outer in
-        stops_in_rate kinds at comma start dot word pending chosen joining outer front is_comma
-        (stops_behind (WantFactor None None (Whole place)) (behind_rate rate.rate place) rate.spelled (rate_runs rate.rate place)
-        (stops_behind (behind_rate rate.rate place) (WantDot word rate.rate pending chosen joining outer) closing.spelled (closing_runs word rate.rate pending chosen joining outer)
-        (stops_here tt (refuses_dot word rate.rate pending chosen joining outer (drop dot kinds) e.1)))))
+    let place : RatePlace = OfActivity word pending chosen joining outer in
+    stops_in_rate kinds at comma start dot word pending chosen joining outer front is_comma
+    (stops_behind (WantFactor None None (Whole place)) (behind_rate rate.rate place) rate.spelled (rate_runs rate.rate place)
+    (stops_behind (behind_rate rate.rate place) (WantDot word rate.rate pending chosen joining outer) closing.spelled (closing_runs word rate.rate pending chosen joining outer)
+    (stops_here tt (refuses_dot word rate.rate pending chosen joining outer (drop dot kinds) e.1)))))
 no_dot kinds at comma start dot word read Memory front is_comma rate closing e = tt
 
 -- ---- prefixes
@@ -117,9 +117,11 @@ behind_activity at next word rate e = omega (arith, e, length-append (rate_spell
 pub is_performing : (kinds : List Terminal) (at : ℕ) (activity : ActivityRead) (rest read : ProcessRead) → IsActivity kinds at activity → IsPrefix kinds activity.next rest → process_node_of read.tree ≡ PrefixAt at (rate_node_of activity.rate) (process_node_of rest.tree) → read.next ≡ rest.next → IsPrefix kinds at read
 is_performing kinds at activity rest read is prefix tree next =
     let e : activity.next ≡ at + 3 + length (rate_spelled is.rate) + 2 = behind_activity at activity.next is.word is.rate is.spelled.index in
-    record { prefix = Activity is.word is.rate prefix.prefix;
-             spelled = rw next (spelled_as (activity_prefix_spelled is.word is.rate prefix.prefix) (spelled_append is.spelled prefix.spelled));
-             tree = tree ∙ ap (λ n. PrefixAt at n (process_node_of rest.tree)) is.tree ∙ ap (λ n. PrefixAt at (rate_tree (at + 3) is.rate) n) (prefix.tree ∙ ap (λ n. prefix_tree n prefix.prefix) e) }
+    record {
+      prefix = Activity is.word is.rate prefix.prefix;
+      spelled = rw next (spelled_as (activity_prefix_spelled is.word is.rate prefix.prefix) (spelled_append is.spelled prefix.spelled));
+      tree = tree ∙ ap (λ n. PrefixAt at n (process_node_of rest.tree)) is.tree ∙ ap (λ n. PrefixAt at (rate_tree (at + 3) is.rate) n) (prefix.tree ∙ ap (λ n. prefix_tree n prefix.prefix) e);
+    }
 
 -- what stops in brackets stops in the prefix
 pub group_fails : (kinds : List Terminal) (at inside : ℕ) (fault : PartFault) → IsAt kinds at inside (Mark Opening) → NoWord (drop inside kinds) → ReadsProcess kinds inside (Err fault) → ReadsPrefix kinds at (Err fault)
@@ -131,16 +133,19 @@ group_fails kinds at inside Memory opening none process = tt
 pub group_stays_open : (kinds : List Terminal) (at inside : ℕ) (read : ProcessRead) (fault : PartFault) → IsAt kinds at inside (Mark Opening) → IsProcess kinds inside read → EndsProcess (drop read.next kinds) → Expects kinds read.next (Mark Closing) (Err fault) → ReadsPrefix kinds at (Err fault)
 group_stays_open kinds at inside read (Refused i) opening process ends e =
     rw e.0 (λ pending chosen joining outer admits.
-        let brackets : Outer = InBrackets pending chosen joining outer in
-        stops_behind (Want pending chosen joining outer) (Want [] None None brackets) opening.spelled (opening_runs pending chosen joining outer)
-        (stops_behind (Want [] None None brackets) (behind_process process.process brackets) process.spelled (process_runs process.process brackets)
-        (stops_here (undone_behind_process process.process brackets) (refuses_behind_process process.process brackets (drop read.next kinds) ends e.1))))
+    let brackets : Outer = InBrackets pending chosen joining outer in
+    stops_behind (Want pending chosen joining outer) (Want [] None None brackets) opening.spelled (opening_runs pending chosen joining outer)
+    (stops_behind (Want [] None None brackets) (behind_process process.process brackets) process.spelled (process_runs process.process brackets)
+    (stops_here (undone_behind_process process.process brackets) (refuses_behind_process process.process brackets (drop read.next kinds) ends e.1))))
 group_stays_open kinds at inside read Memory opening process ends e = tt
 
 pub is_group : (kinds : List Terminal) (at inside : ℕ) (inner read : ProcessRead) → IsAt kinds at inside (Mark Opening) → IsProcess kinds inside inner → IsAt kinds inner.next read.next (Mark Closing) → process_node_of read.tree ≡ process_node_of inner.tree → IsPrefix kinds at read
 is_group kinds at inside inner read opening process closing tree =
-    record { prefix = Grouped process.process; spelled = spelled_append opening.spelled (spelled_append process.spelled closing.spelled);
-             tree = tree ∙ process.tree ∙ ap (λ n. process_tree n process.process) opening.spelled.index }
+    record {
+      prefix = Grouped process.process;
+      spelled = spelled_append opening.spelled (spelled_append process.spelled closing.spelled);
+      tree = tree ∙ process.tree ∙ ap (λ n. process_tree n process.process) opening.spelled.index;
+    }
 
 -- ---- hidings
 
@@ -176,9 +181,11 @@ hiding_fails kinds at brace inside read Memory is slash is_brace words = tt
 pub is_hiding : (kinds : List Terminal) (at brace inside : ℕ) (left read : ProcessRead) (words : WordsRead) → IsHidden kinds at left → IsAt kinds left.next brace (Mark Slash) → IsAt kinds brace inside (Mark OpeningBrace) → AreWords kinds inside (Mark ClosingBrace) words → process_node_of read.tree ≡ HideOf (process_node_of left.tree) words.set → read.next ≡ words.next → IsHidden kinds at read
 is_hiding kinds at brace inside left read words is slash is_brace are tree next =
     let e : inside ≡ at + length (hidden_spelled is.hidden) + 2 = omega (arith, is.spelled.index, slash.spelled.index, is_brace.spelled.index) in
-    record { hidden = Hiding is.hidden are.words;
-             spelled = rw next (spelled_append is.spelled (spelled_append slash.spelled (spelled_append is_brace.spelled are.spelled)));
-             tree = tree ∙ ap (λ n. HideOf n words.set) is.tree ∙ ap (λ n. HideOf (hidden_tree at is.hidden) n) (are.set ∙ ap (λ n. word_indices n are.words) e) }
+    record {
+      hidden = Hiding is.hidden are.words;
+      spelled = rw next (spelled_append is.spelled (spelled_append slash.spelled (spelled_append is_brace.spelled are.spelled)));
+      tree = tree ∙ ap (λ n. HideOf n words.set) is.tree ∙ ap (λ n. HideOf (hidden_tree at is.hidden) n) (are.set ∙ ap (λ n. word_indices n are.words) e);
+    }
 
 -- ---- choices
 
@@ -199,9 +206,11 @@ choice_fails kinds at behind read Memory is plus hidden = tt
 pub is_chosen : (kinds : List Terminal) (at behind : ℕ) (left right read : ProcessRead) → IsChoice kinds at left → IsAt kinds left.next behind (Mark Plus) → IsHidden kinds behind right → process_node_of read.tree ≡ ChoiceOf (process_node_of left.tree) (process_node_of right.tree) → read.next ≡ right.next → IsChoice kinds at read
 is_chosen kinds at behind left right read is plus hidden tree next =
     let e : behind ≡ at + length (choice_spelled is.choice) + 1 = omega (arith, is.spelled.index, plus.spelled.index) in
-    record { choice = Chosen is.choice hidden.hidden;
-             spelled = rw next (spelled_append is.spelled (spelled_append plus.spelled hidden.spelled));
-             tree = tree ∙ ap (λ n. ChoiceOf n (process_node_of right.tree)) is.tree ∙ ap (λ n. ChoiceOf (choice_tree at is.choice) n) (hidden.tree ∙ ap (λ n. hidden_tree n hidden.hidden) e) }
+    record {
+      choice = Chosen is.choice hidden.hidden;
+      spelled = rw next (spelled_append is.spelled (spelled_append plus.spelled hidden.spelled));
+      tree = tree ∙ ap (λ n. ChoiceOf n (process_node_of right.tree)) is.tree ∙ ap (λ n. ChoiceOf (choice_tree at is.choice) n) (hidden.tree ∙ ap (λ n. hidden_tree n hidden.hidden) e);
+    }
 
 -- ---- processes
 
@@ -240,6 +249,8 @@ coop_tree at next behind tree left right set process coop choice t n b l r s =
 
 pub is_cooperating : (kinds : List Terminal) (at : ℕ) (left right read : ProcessRead) (words : WordsRead) → IsProcess kinds at left → IsCooperation kinds left.next words → IsChoice kinds words.next right → process_node_of read.tree ≡ CoopAt left.next (process_node_of left.tree) (process_node_of right.tree) words.set → read.next ≡ right.next → IsProcess kinds at read
 is_cooperating kinds at left right read words is cooperation choice tree next =
-    record { process = Cooperating is.process cooperation.coop choice.choice;
-             spelled = rw next (spelled_append is.spelled (spelled_append cooperation.spelled choice.spelled));
-             tree = coop_tree at left.next words.next (process_node_of read.tree) (process_node_of left.tree) (process_node_of right.tree) words.set is.process cooperation.coop choice.choice tree is.spelled.index cooperation.spelled.index is.tree choice.tree cooperation.set }
+    record {
+      process = Cooperating is.process cooperation.coop choice.choice;
+      spelled = rw next (spelled_append is.spelled (spelled_append cooperation.spelled choice.spelled));
+      tree = coop_tree at left.next words.next (process_node_of read.tree) (process_node_of left.tree) (process_node_of right.tree) words.set is.process cooperation.coop choice.choice tree is.spelled.index cooperation.spelled.index is.tree choice.tree cooperation.set;
+    }

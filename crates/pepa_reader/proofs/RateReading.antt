@@ -1,5 +1,5 @@
 -- What the readers of rates answer.
-use Rattle.std.proofs.Common.{◌≡◌, ◌≢◌, ℕ, ◌+◌, List, [], ◌∷◌, ◌++◌, length, drop, refl, sym, ap, ◌∙◌, Option, Some, None, Result, Ok, Err, arith}
+use Rattle.std.proofs.Common.{◌≡◌, ◌≢◌, ℕ, ◌+◌, List, [], ◌∷◌, length, drop, refl, ap, ◌∙◌, Option, Some, None, Result, Ok, Err}
 use Rattle.pepa_lexer.specs.declared.kinds.Sign.TheVariants.{Semicolon, Opening, Closing, Star, Slash, Plus, Minus}
 use Rattle.pepa_reader.specs.declared.terminal.Terminal.{Terminal}
 use Rattle.pepa_reader.specs.declared.terminal.Terminal.TheVariants.{Small, Probe, Top, Number, Mark}
@@ -7,10 +7,10 @@ use Rattle.pepa_reader.specs.declared.fault.PartFault.{PartFault}
 use Rattle.pepa_reader.specs.declared.fault.PartFault.TheVariants.{Refused, Memory}
 use Rattle.pepa_reader.specs.declared.trees.RateTree.{RateTree}
 use Rattle.pepa_reader.specs.declared.rates.RateRead.{RateRead}
-use Rattle.pepa_reader.specs.Grammar.{SmallName, SumSign, Added, Subtracted, ProductSign, Multiplied, Divided, sum_sign_spelled, product_sign_spelled, Sum, OneProduct, Summed, Product, OneFactor, Produced, Factor, Amount, Naming, Bracketed, sum_spelled, product_spelled, factor_spelled, Rate, Passive, Weighted, Computed}
+use Rattle.pepa_reader.specs.Grammar.{SumSign, Added, Subtracted, ProductSign, Multiplied, Divided, sum_sign_spelled, product_sign_spelled, Sum, OneProduct, Summed, Product, OneFactor, Produced, Factor, Amount, Bracketed, sum_spelled, product_spelled, Rate, Passive, Weighted, Computed}
 use Rattle.pepa_reader.specs.Trees.{RateNode, OpAt, BracketOf, rate_node_of, sum_tree, product_tree, factor_tree}
-use Rattle.pepa_reader.specs.Machine.{Summing, Multiplying, RatePlace, OfLine, OfActivity, RateOuter, Whole, InRateBrackets, State, WantFactor, AfterFactor, AfterTop, IsUndone, step, run, whole_sum, closes_sum, closes_rate, top_step, weighted_step, behind_sum, behind_product, behind_rate}
-use Rattle.pepa_reader.specs.Reading.{Begins, NoSmall, IsSpelled, IsAt, Expects, Refuses, Stops, BeginsWeighted, IsNoWeight, AdmitsFactor, IsFactor, ReadsFactor, EndsProduct, EndsSum, IsProduct, ReadsProduct, IsSum, ReadsSum, EndsRate, IsRate, ReadsRate}
+use Rattle.pepa_reader.specs.Machine.{Summing, Multiplying, RatePlace, OfLine, OfActivity, RateOuter, Whole, InRateBrackets, WantFactor, AfterFactor, AfterTop, IsUndone, step, run, whole_sum, closes_sum, closes_rate, top_step, weighted_step, behind_sum, behind_product, behind_rate}
+use Rattle.pepa_reader.specs.Reading.{Begins, NoSmall, IsSpelled, IsAt, Expects, Refuses, BeginsWeighted, IsNoWeight, AdmitsFactor, IsFactor, ReadsFactor, EndsSum, IsProduct, ReadsProduct, IsSum, ReadsSum, EndsRate, ReadsRate}
 use Rattle.pepa_reader.proofs.Spelled.{spelled_append, stops_here, stops_behind}
 use Rattle.pepa_reader.proofs.MachineRuns.{sum_runs, product_runs, star_behind_product, slash_behind_product, plus_behind_sum, minus_behind_sum}
 
@@ -112,16 +112,19 @@ bracket_fails kinds at inside Memory opening sum = tt
 pub bracket_stays_open : (kinds : List Terminal) (at inside : ℕ) (read : RateRead) (fault : PartFault) → IsAt kinds at inside (Mark Opening) → IsSum kinds inside read → EndsSum (drop read.next kinds) → Expects kinds read.next (Mark Closing) (Err fault) → ReadsFactor kinds at (Err fault)
 bracket_stays_open kinds at inside read (Refused i) opening sum ends e =
     rw e.0 (λ summing multiplying outer admits.
-        let brackets = InRateBrackets summing multiplying outer in
-        stops_behind (WantFactor summing multiplying outer) (WantFactor None None brackets) opening.spelled (opening_runs summing multiplying outer)
-        (stops_behind (WantFactor None None brackets) (behind_sum sum.sum brackets) sum.spelled (sum_runs sum.sum brackets)
-        (stops_here (undone_behind_sum sum.sum brackets) (refuses_behind_sum sum.sum brackets (drop read.next kinds) ends e.1))))
+    let brackets = InRateBrackets summing multiplying outer in
+    stops_behind (WantFactor summing multiplying outer) (WantFactor None None brackets) opening.spelled (opening_runs summing multiplying outer)
+    (stops_behind (WantFactor None None brackets) (behind_sum sum.sum brackets) sum.spelled (sum_runs sum.sum brackets)
+    (stops_here (undone_behind_sum sum.sum brackets) (refuses_behind_sum sum.sum brackets (drop read.next kinds) ends e.1))))
 bracket_stays_open kinds at inside read Memory opening sum ends e = tt
 
 pub is_bracketed : (kinds : List Terminal) (at inside next : ℕ) (inner : RateRead) (tree : RateTree) → IsAt kinds at inside (Mark Opening) → IsSum kinds inside inner → IsAt kinds inner.next next (Mark Closing) → rate_node_of tree ≡ BracketOf (rate_node_of inner.tree) → IsFactor kinds at (record { tree = tree; next = next })
 is_bracketed kinds at inside next inner tree opening sum closing e =
-    record { factor = Bracketed sum.sum; spelled = spelled_append opening.spelled (spelled_append sum.spelled closing.spelled);
-             tree = e ∙ ap BracketOf (sum.tree ∙ ap (λ n. sum_tree n sum.sum) opening.spelled.index) }
+    record {
+      factor = Bracketed sum.sum;
+      spelled = spelled_append opening.spelled (spelled_append sum.spelled closing.spelled);
+      tree = e ∙ ap BracketOf (sum.tree ∙ ap (λ n. sum_tree n sum.sum) opening.spelled.index);
+    }
 
 -- ---- products
 
@@ -166,9 +169,11 @@ op_tree tree left right at next behind x y left_tree right_tree len t n b l r =
 
 pub is_produced : (kinds : List Terminal) (at behind : ℕ) (left right read : RateRead) (sign : ProductSign) → IsProduct kinds at left → IsAt kinds left.next behind (product_sign_spelled sign) → IsFactor kinds behind right → rate_node_of read.tree ≡ OpAt left.next (rate_node_of left.tree) (rate_node_of right.tree) → read.next ≡ right.next → IsProduct kinds at read
 is_produced kinds at behind left right read sign product is_sign factor tree next =
-    record { product = Produced product.product sign factor.factor;
-             spelled = rw next (spelled_append product.spelled (spelled_append is_sign.spelled factor.spelled));
-             tree = op_tree (rate_node_of read.tree) (rate_node_of left.tree) (rate_node_of right.tree) at left.next behind product.product factor.factor product_tree factor_tree (length (product_spelled product.product)) tree product.spelled.index is_sign.spelled.index product.tree factor.tree }
+    record {
+      product = Produced product.product sign factor.factor;
+      spelled = rw next (spelled_append product.spelled (spelled_append is_sign.spelled factor.spelled));
+      tree = op_tree (rate_node_of read.tree) (rate_node_of left.tree) (rate_node_of right.tree) at left.next behind product.product factor.factor product_tree factor_tree (length (product_spelled product.product)) tree product.spelled.index is_sign.spelled.index product.tree factor.tree;
+    }
 
 -- ---- sums
 
@@ -190,9 +195,11 @@ is_one_product kinds at read product = record { sum = OneProduct product.product
 
 pub is_summed : (kinds : List Terminal) (at behind : ℕ) (left right read : RateRead) (sign : SumSign) → IsSum kinds at left → IsAt kinds left.next behind (sum_sign_spelled sign) → IsProduct kinds behind right → rate_node_of read.tree ≡ OpAt left.next (rate_node_of left.tree) (rate_node_of right.tree) → read.next ≡ right.next → IsSum kinds at read
 is_summed kinds at behind left right read sign sum is_sign product tree next =
-    record { sum = Summed sum.sum sign product.product;
-             spelled = rw next (spelled_append sum.spelled (spelled_append is_sign.spelled product.spelled));
-             tree = op_tree (rate_node_of read.tree) (rate_node_of left.tree) (rate_node_of right.tree) at left.next behind sum.sum product.product sum_tree product_tree (length (sum_spelled sum.sum)) tree sum.spelled.index is_sign.spelled.index sum.tree product.tree }
+    record {
+      sum = Summed sum.sum sign product.product;
+      spelled = rw next (spelled_append sum.spelled (spelled_append is_sign.spelled product.spelled));
+      tree = op_tree (rate_node_of read.tree) (rate_node_of left.tree) (rate_node_of right.tree) at left.next behind sum.sum product.product sum_tree product_tree (length (sum_spelled sum.sum)) tree sum.spelled.index is_sign.spelled.index sum.tree product.tree;
+    }
 
 -- ---- whole rates
 

@@ -1,5 +1,5 @@
 -- Where terminals stand, and where the machine stops.
-use Rattle.std.proofs.Common.{◌≡◌, ◌≢◌, ℕ, ◌+◌, ◌<◌, ◌≤◌, Bool, true, false, MatchBool, List, [], ◌∷◌, ◌++◌, length, map, drop, refl, sym, ap, subst, get_or, add-one, suc, ◌∙◌, append_assoc, length-append, Option, Some, None, option_and_then, slice_get, arith}
+use Rattle.std.proofs.Common.{◌≡◌, ◌≢◌, ℕ, ◌+◌, ◌<◌, ◌≤◌, Bool, true, false, MatchBool, List, [], ◌∷◌, ◌++◌, length, map, drop, refl, sym, ap, subst, get_or, add-one, suc, ◌∙◌, append_assoc, length-append, Some, arith}
 use Rattle.std.proofs.lemmas.List.{drop-map, length-map}
 use Rattle.std.proofs.Math.ListN.{drop_of_length-le}
 use Rattle.std.proofs.Math.Seq.{drop-cons}
@@ -7,7 +7,7 @@ use Rattle.pepa_lexer.specs.declared.kinds.Token.{Token}
 use Rattle.pepa_reader.specs.declared.terminal.Terminal.{Terminal}
 use Rattle.pepa_reader.specs.declared.terminal.Text.{Text}
 use Rattle.pepa_reader.specs.Terminals.{terminal_of}
-use Rattle.pepa_reader.specs.Machine.{State, IsUndone, step, run}
+use Rattle.pepa_reader.specs.Machine.{State, IsUndone, run}
 use Rattle.pepa_reader.proofs.MachineRuns.{run_along}
 use Rattle.pepa_reader.specs.Reading.{kinds_of, Begins, IsSpelled, IsAt, Refuses, Stops}
 
@@ -78,5 +78,11 @@ stops_here {kinds = kinds} {at = at} {state = state} undone refused =
 
 pub stops_behind : {kinds : List Terminal} {at mid i : ℕ} {text : List Terminal} (from to : State) → IsSpelled kinds at mid text → run from text ≡ Some to → Stops kinds mid i to → Stops kinds at i from
 stops_behind {text = text} from to spelled ran stops =
-    record { state = stops.state; text = text ++ stops.text; spelled = spelled_append spelled stops.spelled;
-             ran = run_along from to text stops.text ran ∙ stops.ran; undone = stops.undone; refused = stops.refused }
+    record {
+      state = stops.state;
+      text = text ++ stops.text;
+      spelled = spelled_append spelled stops.spelled;
+      ran = run_along from to text stops.text ran ∙ stops.ran;
+      undone = stops.undone;
+      refused = stops.refused;
+    }

@@ -1,5 +1,5 @@
 -- What the reader of systems answers.
-use Rattle.std.proofs.Common.{◌≡◌, ℕ, ◌+◌, List, [], ◌∷◌, ◌++◌, drop, refl, Some, None, Ok, Err, inl, inr}
+use Rattle.std.proofs.Common.{◌≡◌, ℕ, List, [], ◌∷◌, drop, refl, Some, Ok, Err, inl, inr}
 use Rattle.pepa_lexer.specs.declared.kinds.Sign.TheVariants.{Equals, Semicolon}
 use Rattle.pepa_reader.specs.declared.terminal.Terminal.{Terminal}
 use Rattle.pepa_reader.specs.declared.terminal.Terminal.TheVariants.{Capital, Mark, End}
@@ -40,9 +40,10 @@ semicolon_runs process = rw (process_closes process InSystem (Mark Semicolon) (W
 
 pub system_stays : (kinds : List Terminal) (at : ℕ) (read : ProcessRead) (fault : PartFault) → NoLineHead (drop at kinds) → IsProcess kinds at read → EndsProcess (drop read.next kinds) → ReadsEnding kinds read.next (Err fault) → ReadsItem kinds at (Err fault)
 system_stays kinds at read (Refused i) none process ends e =
-    stops_behind start (behind_process process.process InSystem) process.spelled (process_runs process.process InSystem) (elim e
-        [ inl h ↦ rw h.0 (stops_here (undone_behind_process process.process InSystem) (refuses_behind_process process.process InSystem (drop read.next kinds) ends (h.2, h.1, no_name kinds at read.next process.process none process.spelled)))
-        | inr h ↦ stops_behind (behind_process process.process InSystem) (WantEnd process.process) h.0.spelled (semicolon_runs process.process) (stops_here tt (refuses_other process.process (drop i kinds) h.1)) ])
+    stops_behind start (behind_process process.process InSystem) process.spelled (process_runs process.process InSystem) (elim e [
+      | inl h ↦ rw h.0 (stops_here (undone_behind_process process.process InSystem) (refuses_behind_process process.process InSystem (drop read.next kinds) ends (h.2, h.1, no_name kinds at read.next process.process none process.spelled)))
+      | inr h ↦ stops_behind (behind_process process.process InSystem) (WantEnd process.process) h.0.spelled (semicolon_runs process.process) (stops_here tt (refuses_other process.process (drop i kinds) h.1))
+    ])
 system_stays kinds at read Memory none process ends e = tt
 
 pub is_system : (kinds : List Terminal) (at next : ℕ) (read : ProcessRead) → IsProcess kinds at read → ReadsEnding kinds read.next (Ok next) → IsItemRead kinds at (record { item = items.System read.tree; next = next })

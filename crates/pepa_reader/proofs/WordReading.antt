@@ -136,16 +136,20 @@ indices_more at next set words word n e = ap (λ l. l ++ next ∷ []) e ∙ ap (
 
 pub one_more_listed : (kinds : List Terminal) (at mid behind next : ℕ) (close : Terminal) (set : List ℕ) (word : Word) → AreListed kinds at close set mid → IsAt kinds mid behind (word_spelled word) → IsAt kinds behind next (Mark Comma) → AreListed kinds at close (set ++ mid ∷ []) next
 one_more_listed kinds at mid behind next close set word so_far is_word comma =
-    record { words = so_far.words ++ word ∷ [];
-             spelled = spelled_as (listed_more so_far.words word) (spelled_append so_far.spelled (spelled_append is_word.spelled comma.spelled));
-             indices = indices_more at mid set so_far.words word so_far.spelled.index so_far.indices;
-             stays = stays_behind so_far.words word close (drop next kinds) }
+    record {
+      words = so_far.words ++ word ∷ [];
+      spelled = spelled_as (listed_more so_far.words word) (spelled_append so_far.spelled (spelled_append is_word.spelled comma.spelled));
+      indices = indices_more at mid set so_far.words word so_far.spelled.index so_far.indices;
+      stays = stays_behind so_far.words word close (drop next kinds);
+    }
 
 pub are_words : (kinds : List Terminal) (at mid behind next : ℕ) (close : Terminal) (read : WordsRead) (set : List ℕ) (word : Word) → AreListed kinds at close set mid → IsAt kinds mid behind (word_spelled word) → IsAt kinds behind next close → read.set ≡ set ++ mid ∷ [] → read.next ≡ next → AreWords kinds at close read
 are_words kinds at mid behind next close read set word so_far is_word closing is_set is_next =
-    record { words = so_far.words ++ word ∷ [];
-             spelled = rw is_next (spelled_append (spelled_as (last_listed so_far.words word) (spelled_append so_far.spelled is_word.spelled)) closing.spelled);
-             set = is_set ∙ indices_more at mid set so_far.words word so_far.spelled.index so_far.indices }
+    record {
+      words = so_far.words ++ word ∷ [];
+      spelled = rw is_next (spelled_append (spelled_as (last_listed so_far.words word) (spelled_append so_far.spelled is_word.spelled)) closing.spelled);
+      set = is_set ∙ indices_more at mid set so_far.words word so_far.spelled.index so_far.indices;
+    }
 
 -- the set stops where no word stands
 pub no_word : (kinds : List Terminal) (at next : ℕ) (close : Terminal) (set : List ℕ) → AreListed kinds at close set next → NoWord (drop next kinds) → ReadsWords kinds at close (Err (Refused next))
@@ -157,9 +161,9 @@ no_word kinds at next close set so_far none = λ place same.
 pub no_comma : (kinds : List Terminal) (at mid behind : ℕ) (close : Terminal) (set : List ℕ) (word : Word) (fault : PartFault) → AreListed kinds at close set mid → IsAt kinds mid behind (word_spelled word) → ¬ Begins (drop behind kinds) close → Expects kinds behind (Mark Comma) (Err fault) → ReadsWords kinds at close (Err fault)
 no_comma kinds at mid behind close set word (Refused i) so_far is_word stays e =
     rw e.0 (λ place same.
-        stops_behind (AtSet place) (wants place so_far.words) so_far.spelled (listed_onward place [] so_far.words)
-        (stops_behind (wants place so_far.words) (AfterWord place (so_far.words ++ word ∷ [])) is_word.spelled (one_more_runs place so_far.words word)
-        (stops_here tt (refuses_after_word place (so_far.words ++ word ∷ []) (drop behind kinds) e.1 (rw same stays)))))
+    stops_behind (AtSet place) (wants place so_far.words) so_far.spelled (listed_onward place [] so_far.words)
+    (stops_behind (wants place so_far.words) (AfterWord place (so_far.words ++ word ∷ [])) is_word.spelled (one_more_runs place so_far.words word)
+    (stops_here tt (refuses_after_word place (so_far.words ++ word ∷ []) (drop behind kinds) e.1 (rw same stays)))))
 no_comma kinds at mid behind close set word Memory so_far is_word stays e = tt
 
 -- ---- cooperations
@@ -176,5 +180,8 @@ sharing_fails kinds at inside Memory less words = tt
 
 pub is_sharing : (kinds : List Terminal) (at inside : ℕ) (read : WordsRead) → IsAt kinds at inside (Mark Less) → AreWords kinds inside (Mark Greater) read → IsCooperation kinds at read
 is_sharing kinds at inside read less words =
-    record { coop = Sharing words.words; spelled = spelled_append less.spelled words.spelled;
-             set = words.set ∙ ap (λ n. word_indices n words.words) less.spelled.index }
+    record {
+      coop = Sharing words.words;
+      spelled = spelled_append less.spelled words.spelled;
+      set = words.set ∙ ap (λ n. word_indices n words.words) less.spelled.index;
+    }

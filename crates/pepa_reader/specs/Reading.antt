@@ -1,8 +1,8 @@
 -- What each reader of a part answers: what it has read, or where nothing can follow.
-use Rattle.std.specs.Prelude.{◌≡◌, ℕ, ◌+◌, ◌<◌, ◌⊎◌, List, [], ◌∷◌, ◌++◌, length, drop, Option, Some, None, Result, Ok, Err}
-use Rattle.pepa_lexer.specs.declared.kinds.Sign.TheVariants.{Equals, Semicolon, Opening, Closing, Comma, Dot, Star, Slash, Plus, Minus, Or, Less, Greater, ClosingBrace}
+use Rattle.std.specs.Prelude.{◌≡◌, ℕ, ◌+◌, ◌<◌, List, [], ◌∷◌, ◌++◌, length, drop, Option, Some, None, Result, Ok, Err}
+use Rattle.pepa_lexer.specs.declared.kinds.Sign.TheVariants.{Opening, Closing, Comma, Dot, Star, Slash, Plus, Minus, Or, Less, Greater, ClosingBrace}
 use Rattle.pepa_reader.specs.declared.terminal.Terminal.{Terminal}
-use Rattle.pepa_reader.specs.declared.terminal.Terminal.TheVariants.{Small, Probe, Tau, Capital, Top, Number, Mark}
+use Rattle.pepa_reader.specs.declared.terminal.Terminal.TheVariants.{Small, Probe, Tau, Top, Number, Mark}
 use Rattle.pepa_reader.specs.declared.terminal.Text.{Text}
 use Rattle.pepa_reader.specs.declared.fault.PartFault.{PartFault}
 use Rattle.pepa_reader.specs.declared.fault.PartFault.TheVariants.{Refused, Memory}
@@ -11,7 +11,7 @@ use Rattle.pepa_reader.specs.declared.words.WordsRead.{WordsRead}
 use Rattle.pepa_reader.specs.declared.processes.ActivityRead.{ActivityRead}
 use Rattle.pepa_reader.specs.declared.processes.ProcessRead.{ProcessRead}
 use Rattle.pepa_reader.specs.Terminals.{terminals}
-use Rattle.pepa_reader.specs.Grammar.{SmallName, Word, small_spelled, word_spelled, words_spelled, SumSign, ProductSign, Multiplied, sum_sign_spelled, product_sign_spelled, Sum, Product, OneFactor, Factor, Amount, sum_spelled, product_spelled, factor_spelled, Rate, Computed, rate_spelled, Cooperation, cooperation_spelled, Process, Choice, Hidden, Prefix, process_spelled, choice_spelled, hidden_spelled, prefix_spelled}
+use Rattle.pepa_reader.specs.Grammar.{Word, word_spelled, words_spelled, ProductSign, Multiplied, Sum, Product, OneFactor, Factor, Amount, sum_spelled, product_spelled, factor_spelled, Rate, Computed, rate_spelled, Cooperation, cooperation_spelled, Process, Choice, Hidden, Prefix, process_spelled, choice_spelled, hidden_spelled, prefix_spelled}
 use Rattle.pepa_reader.specs.Trees.{rate_node_of, process_node_of, sum_tree, product_tree, factor_tree, rate_tree, word_indices, cooperation_indices, process_tree, choice_tree, hidden_tree, prefix_tree}
 use Rattle.pepa_reader.specs.Machine.{Pending, ChosenSoFar, Joining, Outer, InSystem, InBrackets, RatePlace, Summing, Multiplying, RateOuter, Whole, SetPlace, OfCooperation, OfHiding, State, Want, WantFactor, AtSet, IsUndone, step, run, behind_process}
 

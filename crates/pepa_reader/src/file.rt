@@ -44,12 +44,7 @@ fn cause(text: &Text, start: usize, i: usize) -> FileFault
 }
 
 /// The item that begins at the index, of which no more than 2,048 tokens are read.
-fn item_at(
-    alloc: Global,
-    tokens: &[Token],
-    input: &[u8],
-    at: usize,
-) -> Result<ItemRead, FileFault>
+fn item_at(alloc: Global, tokens: &[Token], input: &[u8], at: usize) -> Result<ItemRead, FileFault>
     requires within { at < length tokens.now }
     requires ended { IsEnded (terminals input.now tokens.now) }
     ensures { ReadsItemAt input.now tokens.now at result }

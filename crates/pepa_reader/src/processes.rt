@@ -136,10 +136,7 @@ fn hiding(alloc: Global, inner: ProcessRead, words: WordsRead) -> Result<Process
 fn chosen(alloc: Global, left: ProcessRead, right: ProcessRead) -> Result<ProcessRead, AllocError>
     ensures { IfOk result (λ read. (process_node_of read.tree ≡ ChoiceOf (process_node_of left.tree) (process_node_of right.tree)) × (read.next ≡ right.next)) }
 {
-    let tree = ProcessTree::Choice(
-        Box::new(alloc, left.tree)?,
-        Box::new(alloc, right.tree)?,
-    );
+    let tree = ProcessTree::Choice(Box::new(alloc, left.tree)?, Box::new(alloc, right.tree)?);
     let next = right.next;
     Ok(ProcessRead { tree, next })
 }

@@ -8,7 +8,10 @@ pub enum RateTree {
     /// The rate name at this index.
     Name(usize),
     /// A passive rate: the index of its weight, if it has one, and of its `infty` or `T`.
-    Top { weight: Option<usize>, at: usize },
+    Top {
+        weight: Option<usize>,
+        at: usize,
+    },
     /// Two rates and the index of the operator between them.
     Op {
         at: usize,

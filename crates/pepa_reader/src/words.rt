@@ -19,7 +19,12 @@ pub(crate) struct WordsRead {
 
 impl Text<'_, '_> {
     /// The words of a set, from behind the sign that opens it to the one that closes it.
-    pub(crate) fn words(&self, alloc: Global, at: usize, close: Terminal) -> Result<WordsRead, PartFault>
+    pub(crate) fn words(
+        &self,
+        alloc: Global,
+        at: usize,
+        close: Terminal,
+    ) -> Result<WordsRead, PartFault>
         requires { (close ≡ Terminal.Mark Sign.Greater) ⊎ (close ≡ Terminal.Mark Sign.ClosingBrace) }
         ensures { ReadsWords (kinds_of self.now) at close result }
     {
@@ -41,7 +46,11 @@ impl Text<'_, '_> {
     }
 
     /// The cooperation at the index, if there is one.
-    pub(crate) fn cooperation(&self, alloc: Global, at: usize) -> Result<Option<WordsRead>, PartFault>
+    pub(crate) fn cooperation(
+        &self,
+        alloc: Global,
+        at: usize,
+    ) -> Result<Option<WordsRead>, PartFault>
         ensures { ReadsCooperation (kinds_of self.now) at result }
     {
         if let Some(next) = self.behind(at, Terminal::Mark(Sign::Or)) {

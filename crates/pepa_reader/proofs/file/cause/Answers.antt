@@ -3,10 +3,7 @@ use Rattle.pepa_lexer.specs.declared.kinds.Kind.TheVariants.{Small}
 use Rattle.pepa_lexer.specs.declared.kinds.Token.{Token}
 use Rattle.pepa_lexer.specs.declared.kinds.Sign.TheVariants.{Star, Less, OpeningBracket}
 use Rattle.pepa_reader.specs.declared.terminal.Terminal.TheVariants.{Probe, Mark}
-use Rattle.pepa_reader.specs.Terminals.{terminals}
 use Rattle.pepa_reader.specs.Reading.{kinds_of}
-use Rattle.pepa_reader.specs.FileAnswers.{most_tokens, IsWildcard}
-use Rattle.pepa_reader.specs.ItemReading.{IsProbeLine}
 use Rattle.pepa_reader.proofs.Places.{begins_there, stands_there, has_place}
 use Rattle.pepa_reader.proofs.file.cause.Goals.{else-begun-eq1-via-then-begun-eq1+else-comes, else-begun-eq1-via-else-begun-eq1, else-i-gt0-via-then-i-gt0+then-comes-3+else-comes-4, else-i-gt0-via-then-i-gt0+else-comes-3, else-i-gt0-via-else-i-gt0}
 use Rattle.pepa_reader.proofs.file.cause.Goals as goal
@@ -26,28 +23,32 @@ returns-then-begun-eq-MOST_TOKENS c = (omega arith, has_place c.args.text.now.to
 
 pub returns-then-comes-2 : goal.returns-then-comes-2
 unfolding kinds_of no_token
-returns-then-comes-2 c =
-    ( (λ e. c.if-begun-eq-MOST_TOKENS.false (omega arith))
-    , (λ p. elim c.else-begun-eq1.branch [ else-begun-eq1-via-then-begun-eq1+else-comes w ↦ w.if-comes.ensures.answer (begins_there (kinds_of c.args.text.now) c.args.start Probe p.1) | else-begun-eq1-via-else-begun-eq1 w ↦ w.if-begun-eq1.false (omega (arith, p.0)) ])
-    , stands_there (kinds_of c.args.text.now) c.args.i (Mark OpeningBracket) c.if-comes-2.ensures.answer
-    , has_place c.args.text.now.tokens.now c.args.i no_token c.requires.within )
+returns-then-comes-2 c = (
+  (λ e. c.if-begun-eq-MOST_TOKENS.false (omega arith)),
+  (λ p. elim c.else-begun-eq1.branch [ else-begun-eq1-via-then-begun-eq1+else-comes w ↦ w.if-comes.ensures.answer (begins_there (kinds_of c.args.text.now) c.args.start Probe p.1) | else-begun-eq1-via-else-begun-eq1 w ↦ w.if-begun-eq1.false (omega (arith, p.0)) ]),
+  stands_there (kinds_of c.args.text.now) c.args.i (Mark OpeningBracket) c.if-comes-2.ensures.answer,
+  has_place c.args.text.now.tokens.now c.args.i no_token c.requires.within,
+)
 
 pub returns-then-comes-4 : goal.returns-then-comes-4
 unfolding kinds_of no_token
-returns-then-comes-4 c =
-    ( (λ e. c.if-begun-eq-MOST_TOKENS.false (omega arith))
-    , (λ p. elim c.else-begun-eq1.branch [ else-begun-eq1-via-then-begun-eq1+else-comes w ↦ w.if-comes.ensures.answer (begins_there (kinds_of c.args.text.now) c.args.start Probe p.1) | else-begun-eq1-via-else-begun-eq1 w ↦ w.if-begun-eq1.false (omega (arith, p.0)) ])
-    , (stands_there (kinds_of c.args.text.now) c.args.i (Mark Star) c.if-comes-3.ensures.answer, (c.args.i - 1, omega arith, stands_there (kinds_of c.args.text.now) (c.args.i - 1) (Mark Less) c.if-comes-4.ensures.answer))
-    , has_place c.args.text.now.tokens.now c.args.i no_token c.requires.within )
+returns-then-comes-4 c = (
+  (λ e. c.if-begun-eq-MOST_TOKENS.false (omega arith)),
+  (λ p. elim c.else-begun-eq1.branch [ else-begun-eq1-via-then-begun-eq1+else-comes w ↦ w.if-comes.ensures.answer (begins_there (kinds_of c.args.text.now) c.args.start Probe p.1) | else-begun-eq1-via-else-begun-eq1 w ↦ w.if-begun-eq1.false (omega (arith, p.0)) ]),
+  (stands_there (kinds_of c.args.text.now) c.args.i (Mark Star) c.if-comes-3.ensures.answer, (c.args.i - 1, omega arith, stands_there (kinds_of c.args.text.now) (c.args.i - 1) (Mark Less) c.if-comes-4.ensures.answer)),
+  has_place c.args.text.now.tokens.now c.args.i no_token c.requires.within,
+)
 
 pub returns : goal.returns
 unfolding kinds_of no_token
-returns c =
-    ( (λ e. c.if-begun-eq-MOST_TOKENS.false (omega arith))
-    , (λ p. elim c.else-begun-eq1.branch [ else-begun-eq1-via-then-begun-eq1+else-comes w ↦ w.if-comes.ensures.answer (begins_there (kinds_of c.args.text.now) c.args.start Probe p.1) | else-begun-eq1-via-else-begun-eq1 w ↦ w.if-begun-eq1.false (omega (arith, p.0)) ])
-    , (λ s. c.if-comes-2.ensures.answer (begins_there (kinds_of c.args.text.now) c.args.i (Mark OpeningBracket) s))
-    , (λ s. elim c.else-i-gt0.branch
-        [ else-i-gt0-via-then-i-gt0+then-comes-3+else-comes-4 w ↦ w.if-comes-4.ensures.answer (begins_there (kinds_of c.args.text.now) (c.args.i - 1) (Mark Less) (let e : c.args.i - 1 ≡ s.1.0 = omega (arith, s.1.1) in rw e s.1.2))
-        | else-i-gt0-via-then-i-gt0+else-comes-3 w ↦ w.if-comes-3.ensures.answer (begins_there (kinds_of c.args.text.now) c.args.i (Mark Star) s.0)
-        | else-i-gt0-via-else-i-gt0 w ↦ absurd (omega (arith, s.1.1)) ])
-    , has_place c.args.text.now.tokens.now c.args.i no_token c.requires.within )
+returns c = (
+  (λ e. c.if-begun-eq-MOST_TOKENS.false (omega arith)),
+  (λ p. elim c.else-begun-eq1.branch [ else-begun-eq1-via-then-begun-eq1+else-comes w ↦ w.if-comes.ensures.answer (begins_there (kinds_of c.args.text.now) c.args.start Probe p.1) | else-begun-eq1-via-else-begun-eq1 w ↦ w.if-begun-eq1.false (omega (arith, p.0)) ]),
+  (λ s. c.if-comes-2.ensures.answer (begins_there (kinds_of c.args.text.now) c.args.i (Mark OpeningBracket) s)),
+  (λ s. elim c.else-i-gt0.branch [
+    | else-i-gt0-via-then-i-gt0+then-comes-3+else-comes-4 w ↦ w.if-comes-4.ensures.answer (begins_there (kinds_of c.args.text.now) (c.args.i - 1) (Mark Less) (let e : c.args.i - 1 ≡ s.1.0 = omega (arith, s.1.1) in rw e s.1.2))
+    | else-i-gt0-via-then-i-gt0+else-comes-3 w ↦ w.if-comes-3.ensures.answer (begins_there (kinds_of c.args.text.now) c.args.i (Mark Star) s.0)
+    | else-i-gt0-via-else-i-gt0 w ↦ absurd (omega (arith, s.1.1))
+  ]),
+  has_place c.args.text.now.tokens.now c.args.i no_token c.requires.within,
+)

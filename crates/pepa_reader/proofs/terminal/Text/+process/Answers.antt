@@ -78,11 +78,11 @@ pub process-returns-in_err-right : goal.process-returns-in_err-right
 process-returns-in_err-right t c =
     let p = err_from_is_err_and c.from_residual-in_err-right.result c.from_residual-in_err-right.ensures.1 in
     rw (p.1, p.2) (right_fails (kinds_of c.args.self.now) c.args.at c.loop-read.read c.in-Some.words c.in_err-right.field-0.0 c.loop-read.invariant.processes
-      (cooperation_found (kinds_of c.args.self.now) c.loop-read.read.next c.in_ok-words.field-0 c.in-Some.words c.in-Some.is c.in_ok-words.ensures) c.in_err-right.ensures)
+    (cooperation_found (kinds_of c.args.self.now) c.loop-read.read.next c.in_ok-words.field-0 c.in-Some.words c.in-Some.is c.in_ok-words.ensures) c.in_err-right.ensures)
 
 pub process-loop-read-preserved : goal.process-loop-read-preserved
 process-loop-read-preserved t c = record {
   processes = is_cooperating (kinds_of c.args.self.now) c.args.at c.loop-read.read c.in_ok-right.right c.in_ok-read-2.read c.in-Some.words c.loop-read.invariant.processes
-    (cooperation_found (kinds_of c.args.self.now) c.loop-read.read.next c.in_ok-words.field-0 c.in-Some.words c.in-Some.is c.in_ok-words.ensures) c.in_ok-right.ensures.0 c.in_ok-read-2.ensures.0 c.in_ok-read-2.ensures.1;
+      (cooperation_found (kinds_of c.args.self.now) c.loop-read.read.next c.in_ok-words.field-0 c.in-Some.words c.in-Some.is c.in_ok-words.ensures) c.in_ok-right.ensures.0 c.in_ok-read-2.ensures.0 c.in_ok-read-2.ensures.1;
   ends = rw c.in_ok-read-2.ensures.1 c.in_ok-right.ensures.1;
 }

@@ -2,7 +2,7 @@ use Rattle.std.proofs.Common.{refl}
 use Rattle.std.proofs.lemmas.Result.{err_from_is_err_and}
 use Rattle.pepa_reader.specs.Grammar.{Amount, Naming}
 use Rattle.pepa_reader.specs.Reading.{kinds_of}
-use Rattle.pepa_reader.proofs.RateReading.{no_factor, bracket_fails, bracket_stays_open, is_bracketed, product_fails, one_factor_fails, is_one_factor, is_produced, sum_fails, is_one_product, is_summed}
+use Rattle.pepa_reader.proofs.RateReading.{no_factor, bracket_fails, bracket_stays_open, is_bracketed, product_fails, is_one_factor, is_produced, sum_fails, is_one_product, is_summed}
 use Rattle.pepa_reader.proofs.terminal.Text.+rate.Goals as goal
 
 pub factor-returns-in-Some : goal.factor-returns-in-Some
