@@ -1,6 +1,6 @@
 -- Why a file isn't read: what the machine shows of the first token that can't follow.
-use Rattle.std.proofs.Common.{◌≡◌, ◌≢◌, ℕ, suc, ◌+◌, ◌<◌, ◌≤◌, List, [], ◌∷◌, ◌++◌, length, get_or, take, drop, refl, sym, ap, subst, add-one, ◌∙◌, append_assoc, append-nil, length-append, arith, Some, None, Option, slice_get, Err}
-use Rattle.std.proofs.lemmas.List.{length-map, take-append-drop}
+use Rattle.std.proofs.Common.{◌≡◌, ◌≢◌, ℕ, suc, ◌+◌, ◌<◌, ◌≤◌, List, [], ◌∷◌, ◌++◌, length, get_or, take, drop, refl, sym, ap, subst, ◌∙◌, append_assoc, append-nil, length-append, arith, Some, None, Err}
+use Rattle.std.proofs.lemmas.List.{length-map}
 use Rattle.std.proofs.lemmas.Option.{same_Some}
 use Rattle.std.proofs.Math.Seq.{drop-cons, take-append_seam}
 use Rattle.pepa_lexer.specs.declared.kinds.Token.{Token}
@@ -10,12 +10,11 @@ use Rattle.pepa_reader.specs.declared.terminal.Terminal.TheVariants.{Probe, Mark
 use Rattle.pepa_reader.specs.declared.fault.FileFault.{FileFault}
 use Rattle.pepa_reader.specs.declared.fault.FileFault.TheVariants as faults
 use Rattle.pepa_reader.specs.Terminals.{terminals, terminal_of}
-use Rattle.pepa_reader.specs.Grammar.{Probing, Line, Item, item_spelled, lines_spelled}
-use Rattle.pepa_reader.specs.FileAnswers.{most_tokens, CanGoOn, CantFollow, StandsAt, AreShort, IsInItem, BeginsProbeLine, IsRefused, IsFaultAt, Tells, IsFileFault, ReadsFile}
+use Rattle.pepa_reader.specs.Grammar.{Probing, Line, lines_spelled}
+use Rattle.pepa_reader.specs.FileAnswers.{most_tokens, CanGoOn, CantFollow, StandsAt, AreShort, IsInItem, BeginsProbeLine, IsRefused, ReadsFile}
 use Rattle.pepa_reader.specs.Machine.{State, WantEquals, IsUndone, step, run, start}
-use Rattle.pepa_reader.specs.Reading.{Begins, IsSpelled, Refuses}
-use Rattle.pepa_reader.specs.ItemReading.{IsProbeLine, TellsAt, IsCause, IsItemFault, ReadsItemAt}
-use Rattle.pepa_reader.proofs.Spelled.{spelled_nothing}
+use Rattle.pepa_reader.specs.Reading.{Begins, Refuses}
+use Rattle.pepa_reader.specs.ItemReading.{IsProbeLine, IsItemFault, ReadsItemAt}
 use Rattle.pepa_reader.proofs.Places.{begins_there}
 use Rattle.pepa_reader.proofs.ItemLaws.{begins_item, can_go_on, cant_go_on}
 
@@ -105,9 +104,9 @@ one_probe (t ∷ []) front back one e b = ap (λ u. u ∷ []) (first e b)
     first f b' = rw f at b'
 one_probe (t ∷ u ∷ more) front back one e b = absurd (omega arith)
 
-pub begins_probe_line : (kinds : List Terminal) (at i : ℕ) (h : Stopped kinds at i) → at ≡ length (lines_spelled h.lines) → drop at kinds ≡ h.text ++ drop i kinds → Refuses h.state (drop i kinds) → IsProbeLine kinds at i → BeginsProbeLine kinds at
+pub begins_probe_line : (kinds : List Terminal) (at i : ℕ) (h : Stopped kinds at i) → drop at kinds ≡ h.text ++ drop i kinds → Refuses h.state (drop i kinds) → IsProbeLine kinds at i → BeginsProbeLine kinds at
 unfolding run
-begins_probe_line kinds at i h from spelled refused line =
+begins_probe_line kinds at i h spelled refused line =
     let one : h.text ≡ Probe ∷ [] = one_probe h.text (drop at kinds) (drop i kinds) (omega (arith, h.index, line.0)) spelled (begins_there kinds at Probe line.1) in
     let state : h.state ≡ WantEquals Probing = same_Some h.state (WantEquals Probing) (sym h.ran ∙ ap (run start) one ∙ probe_runs) in
     record { begins = in_item kinds at at (nothing_read kinds at i h spelled);
@@ -152,7 +151,7 @@ file_fails input tokens at lines (faults.Wildcard place) short whole from h =
 file_fails input tokens at lines (faults.Unsupported place) short whole from h =
     let kinds = terminals input tokens in
     let s = stopped input tokens at lines (faults.Unsupported place) short whole from h in
-    record { i = at; is_fault = begins_probe_line kinds at h.i s from h.spelled.whole (h.refused (one_not_deep at h.i h.cause.0.0)) h.cause.0; token = h.cause.1.0; is_token = h.cause.1.1; place = h.cause.1.2 }
+    record { i = at; is_fault = begins_probe_line kinds at h.i s h.spelled.whole (h.refused (one_not_deep at h.i h.cause.0.0)) h.cause.0; token = h.cause.1.0; is_token = h.cause.1.1; place = h.cause.1.2 }
   where
     one_not_deep : (at i : ℕ) → i ≡ at + 1 → i ≢ at + most_tokens
     one_not_deep at i one deep = omega arith

@@ -1,8 +1,8 @@
 -- What has been read of a file: its lines so far, and then the whole of it.
-use Rattle.std.proofs.Common.{◌≡◌, ◌≢◌, ℕ, ◌+◌, ◌<◌, ◌≤◌, List, [], ◌∷◌, ◌++◌, length, map, drop, refl, sym, ap, subst, ◌∙◌, append_assoc, append-nil, length-append, arith, Ok, Err}
-use Rattle.std.specs.List.{AllByRecursion, flat_map}
+use Rattle.std.proofs.Common.{◌≡◌, ◌≢◌, ℕ, ◌+◌, ◌<◌, ◌≤◌, List, [], ◌∷◌, ◌++◌, length, map, drop, refl, sym, ap, ◌∙◌, append_assoc, append-nil, length-append, arith, Ok, Err}
+use Rattle.std.specs.List.{AllByRecursion}
 use Rattle.std.proofs.lemmas.Grind.{flat_map-append}
-use Rattle.std.proofs.lemmas.List.{map-append, length-drop, length-map}
+use Rattle.std.proofs.lemmas.List.{map-append, length-map}
 use Rattle.std.proofs.Math.ListN.{drop_of_length-le}
 use Rattle.pepa_lexer.specs.declared.kinds.Token.{Token}
 use Rattle.pepa_lexer.specs.declared.kinds.Sign.TheVariants.{Equals, Semicolon}
@@ -12,17 +12,15 @@ use Rattle.pepa_reader.specs.declared.trees.RateLine.{RateLine}
 use Rattle.pepa_reader.specs.declared.trees.ProcessLine.{ProcessLine}
 use Rattle.pepa_reader.specs.declared.trees.ProcessTree.{ProcessTree}
 use Rattle.pepa_reader.specs.declared.trees.FileTree.{FileTree}
-use Rattle.pepa_reader.specs.declared.items.Item.{Item}
 use Rattle.pepa_reader.specs.declared.items.Item.TheVariants.{Rate, Process, System}
-use Rattle.pepa_reader.specs.declared.items.ItemRead.{ItemRead}
 use Rattle.pepa_reader.specs.declared.fault.FileFault.{FileFault}
 use Rattle.pepa_reader.specs.Terminals.{terminals, terminal_of}
 use Rattle.pepa_reader.specs.Grammar as g
 use Rattle.pepa_reader.specs.Grammar.{Line, RateNamed, ProcessNamed, Ending, Open, Closed, OneLine, small_spelled, rate_spelled, process_spelled, ending_spelled, line_spelled, lines_spelled, item_spelled}
-use Rattle.pepa_reader.specs.Trees.{RateNode, ProcessNode, RateLineNode, ProcessLineNode, FileNode, rate_node_of, rate_tree, process_tree, rate_line_of, process_line_of, process_node_of, rate_lines_from, process_lines_from, file_node_of, file_tree}
+use Rattle.pepa_reader.specs.Trees.{RateNode, ProcessNode, RateLineNode, ProcessLineNode, FileNode, rate_node_of, rate_tree, process_tree, rate_line_of, process_line_of, process_node_of, rate_lines_from, process_lines_from}
 use Rattle.pepa_reader.specs.FileAnswers.{most_tokens, AreShort, IsFileTree, ReadsFile}
 use Rattle.pepa_reader.specs.Reading.{IsSpelled}
-use Rattle.pepa_reader.specs.ItemReading.{IsEnded, IsItem, IsItemRead, ReadsItemAt}
+use Rattle.pepa_reader.specs.ItemReading.{IsEnded, IsItem, ReadsItemAt}
 use Rattle.pepa_reader.proofs.FaultReading.{file_fails}
 
 -- ---- one more line
@@ -35,22 +33,22 @@ short_more [] line short one = (one, tt)
 short_more (first ∷ more) line short one = (short.0, short_more more line short.1 one)
 
 -- behind a line the next begins
-next_line : (at len : ℕ) (line : Line) (lines : List Line) → at + length (line_spelled line) + length (lines_spelled lines) ≡ at + length (lines_spelled (line ∷ lines))
-next_line at len line lines = omega (arith, length-append (line_spelled line) (lines_spelled lines))
+next_line : (at : ℕ) (line : Line) (lines : List Line) → at + length (line_spelled line) + length (lines_spelled lines) ≡ at + length (lines_spelled (line ∷ lines))
+next_line at line lines = omega (arith, length-append (line_spelled line) (lines_spelled lines))
 
 rates_more : (at : ℕ) (lines : List Line) (line : Line) → rate_lines_from at (lines ++ line ∷ []) ≡ rate_lines_from at lines ++ rate_lines_from (at + length (lines_spelled lines)) (line ∷ [])
 rates_more at [] line = ap (λ n. rate_lines_from n (line ∷ [])) (omega arith)
 rates_more at (RateNamed name rate ∷ lines) line =
-    ap (λ l. record { line_at = at; rate = rate_tree (at + 2) rate } ∷ l) (rates_more (at + length (line_spelled (RateNamed name rate))) lines line ∙ ap (λ n. rate_lines_from (at + length (line_spelled (RateNamed name rate))) lines ++ rate_lines_from n (line ∷ [])) (next_line at 0 (RateNamed name rate) lines))
+    ap (λ l. record { line_at = at; rate = rate_tree (at + 2) rate } ∷ l) (rates_more (at + length (line_spelled (RateNamed name rate))) lines line ∙ ap (λ n. rate_lines_from (at + length (line_spelled (RateNamed name rate))) lines ++ rate_lines_from n (line ∷ [])) (next_line at (RateNamed name rate) lines))
 rates_more at (ProcessNamed process ∷ lines) line =
-    rates_more (at + length (line_spelled (ProcessNamed process))) lines line ∙ ap (λ n. rate_lines_from (at + length (line_spelled (ProcessNamed process))) lines ++ rate_lines_from n (line ∷ [])) (next_line at 0 (ProcessNamed process) lines)
+    rates_more (at + length (line_spelled (ProcessNamed process))) lines line ∙ ap (λ n. rate_lines_from (at + length (line_spelled (ProcessNamed process))) lines ++ rate_lines_from n (line ∷ [])) (next_line at (ProcessNamed process) lines)
 
 processes_more : (at : ℕ) (lines : List Line) (line : Line) → process_lines_from at (lines ++ line ∷ []) ≡ process_lines_from at lines ++ process_lines_from (at + length (lines_spelled lines)) (line ∷ [])
 processes_more at [] line = ap (λ n. process_lines_from n (line ∷ [])) (omega arith)
 processes_more at (RateNamed name rate ∷ lines) line =
-    processes_more (at + length (line_spelled (RateNamed name rate))) lines line ∙ ap (λ n. process_lines_from (at + length (line_spelled (RateNamed name rate))) lines ++ process_lines_from n (line ∷ [])) (next_line at 0 (RateNamed name rate) lines)
+    processes_more (at + length (line_spelled (RateNamed name rate))) lines line ∙ ap (λ n. process_lines_from (at + length (line_spelled (RateNamed name rate))) lines ++ process_lines_from n (line ∷ [])) (next_line at (RateNamed name rate) lines)
 processes_more at (ProcessNamed process ∷ lines) line =
-    ap (λ l. record { line_at = at; body = process_tree (at + 2) process } ∷ l) (processes_more (at + length (line_spelled (ProcessNamed process))) lines line ∙ ap (λ n. process_lines_from (at + length (line_spelled (ProcessNamed process))) lines ++ process_lines_from n (line ∷ [])) (next_line at 0 (ProcessNamed process) lines))
+    ap (λ l. record { line_at = at; body = process_tree (at + 2) process } ∷ l) (processes_more (at + length (line_spelled (ProcessNamed process))) lines line ∙ ap (λ n. process_lines_from (at + length (line_spelled (ProcessNamed process))) lines ++ process_lines_from n (line ∷ [])) (next_line at (ProcessNamed process) lines))
 
 -- ---- the end
 

@@ -1,11 +1,10 @@
 -- What is read of the first tokens is read of them all.
-use Rattle.std.proofs.Common.{◌≡◌, ◌≢◌, ℕ, zero, suc, ◌+◌, ◌-◌, ◌<◌, ◌≤◌, min, List, [], ◌∷◌, ◌++◌, length, map, take, drop, refl, sym, ap, subst, ◌∙◌, append_assoc, append-nil, length-append, arith, Some, None}
-use Rattle.std.specs.List.{AllByRecursion}
+use Rattle.std.proofs.Common.{◌≡◌, ◌≢◌, ℕ, zero, suc, ◌+◌, ◌-◌, ◌<◌, ◌≤◌, min, List, [], ◌∷◌, ◌++◌, length, take, drop, refl, sym, ap, subst, ◌∙◌, append_assoc, append-nil, length-append, arith, Some}
 use Rattle.std.proofs.lemmas.List.{take-append-drop, length-drop, length-take-le, length-map, take-map}
 use Rattle.std.proofs.Math.ListN.{drop_of_length-le}
 use Rattle.pepa_reader.specs.declared.terminal.Terminal.{Terminal}
 use Rattle.pepa_reader.specs.declared.terminal.Terminal.TheVariants.{End}
-use Rattle.pepa_reader.specs.Machine.{State, IsUndone, step, run, start}
+use Rattle.pepa_reader.specs.Machine.{State, IsUndone, run, start}
 use Rattle.pepa_reader.specs.Grammar.{item_spelled}
 use Rattle.pepa_reader.specs.FileAnswers.{most_tokens}
 use Rattle.pepa_reader.specs.Terminals.{terminals, terminal_of}

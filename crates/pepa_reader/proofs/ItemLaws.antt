@@ -88,7 +88,7 @@ begins_item text state ran undone =
     (done.item, sym (ap (take (length text)) done.spelled ∙ take-append_seam text done.more), omega (arith, ap length done.spelled, length-append text done.more, done.some))
 
 -- behind a line a system can stand, and behind a system nothing
-item_goes_on : (lines : List Line) (item : Item) (text more : List Terminal) → item_spelled item ≡ text ++ more → CanGoOn (lines_spelled lines ++ text)
+pub item_goes_on : (lines : List Line) (item : Item) (text more : List Terminal) → item_spelled item ≡ text ++ more → CanGoOn (lines_spelled lines ++ text)
 item_goes_on lines (OneLine line) text more e =
     ( more ++ Capital ∷ End ∷ []
     , ( record { lines = lines ++ line ∷ []; system = OneChoice (OneHidden (OnePrefix Constant)); ending = Open }

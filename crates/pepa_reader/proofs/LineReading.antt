@@ -1,19 +1,18 @@
 -- What the readers of lines answer.
-use Rattle.std.proofs.Common.{◌≡◌, ℕ, ◌+◌, List, [], ◌∷◌, ◌++◌, length, drop, refl, sym, ap, ◌∙◌, Some, None, Ok, Err, arith}
+use Rattle.std.proofs.Common.{◌≡◌, ℕ, ◌+◌, List, [], ◌∷◌, drop, refl, ap, ◌∙◌, Some, None, Err, arith}
 use Rattle.pepa_lexer.specs.declared.kinds.Sign.TheVariants.{Equals, Semicolon}
 use Rattle.pepa_reader.specs.declared.terminal.Terminal.{Terminal}
 use Rattle.pepa_reader.specs.declared.terminal.Terminal.TheVariants.{Capital, Mark}
 use Rattle.pepa_reader.specs.declared.fault.PartFault.{PartFault}
 use Rattle.pepa_reader.specs.declared.fault.PartFault.TheVariants.{Refused, Memory}
 use Rattle.pepa_reader.specs.declared.rates.RateRead.{RateRead}
-use Rattle.pepa_reader.specs.declared.trees.RateLine.{RateLine}
 use Rattle.pepa_reader.specs.declared.items.Item.TheVariants.{Rate}
 use Rattle.pepa_reader.specs.declared.items.Item.TheVariants as items
 use Rattle.pepa_reader.specs.declared.processes.ProcessRead.{ProcessRead}
 use Rattle.pepa_reader.specs.Grammar.{SmallName, Plain, Probing, small_spelled, OneLine, RateNamed, ProcessNamed}
 use Rattle.pepa_reader.specs.Trees.{rate_tree, process_tree}
 use Rattle.pepa_reader.specs.Machine.{InLine, Whole, OfLine, Want, WantEquals, WantFactor, step, run, start, behind_rate, behind_process}
-use Rattle.pepa_reader.specs.Reading.{Begins, IsSpelled, IsAt, Expects, Refuses, IsRate, ReadsRate, EndsProcess, IsProcess, ReadsProcess}
+use Rattle.pepa_reader.specs.Reading.{Begins, IsAt, Expects, Refuses, IsRate, ReadsRate, EndsProcess, IsProcess, ReadsProcess}
 use Rattle.pepa_reader.specs.ItemReading.{IsLineHead, ReadsItem, IsItemRead}
 use Rattle.pepa_reader.proofs.Spelled.{spelled_append, stops_here, stops_behind}
 use Rattle.pepa_reader.proofs.MachineRuns.{rate_runs, process_runs}

@@ -1,5 +1,5 @@
 -- What the reader of systems answers.
-use Rattle.std.proofs.Common.{◌≡◌, ℕ, ◌+◌, List, [], ◌∷◌, ◌++◌, drop, refl, Some, None, Ok, Err, inl, inr}
+use Rattle.std.proofs.Common.{◌≡◌, ℕ, List, [], ◌∷◌, drop, refl, Some, Ok, Err, inl, inr}
 use Rattle.pepa_lexer.specs.declared.kinds.Sign.TheVariants.{Equals, Semicolon}
 use Rattle.pepa_reader.specs.declared.terminal.Terminal.{Terminal}
 use Rattle.pepa_reader.specs.declared.terminal.Terminal.TheVariants.{Capital, Mark, End}

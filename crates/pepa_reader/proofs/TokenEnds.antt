@@ -1,17 +1,16 @@
 -- The last token of a text is its end, and no other is.
-use Rattle.std.proofs.Common.{◌≡◌, ◌≢◌, ℕ, ◌+◌, ◌<◌, Bool, true, false, if◌then◌else◌, nat_eq, codes, List, [], ◌∷◌, ◌++◌, length, map, refl, ap, ◌∙◌, arith, length-append, Option, Some, None}
+use Rattle.std.proofs.Common.{◌≢◌, ℕ, ◌+◌, ◌<◌, Bool, true, false, if◌then◌else◌, nat_eq, codes, List, [], ◌∷◌, length, map, ap, ◌∙◌, arith, length-append}
 use Rattle.std.specs.List.{AllByRecursion}
 use Rattle.std.specs.Cmp.Lexicographic.{pointwise}
 use Rattle.std.proofs.lemmas.List.{map-append}
 use Rattle.pepa_lexer.specs.Lexemes.{Lexeme, Blank, LineComment, BlockComment, Word, Whole, Pointed, Mark, spelled}
 use Rattle.pepa_lexer.specs.Bytes.{is_capital, begins}
-use Rattle.pepa_lexer.specs.TokenLists.{IsTokens, tokens_along, token_at, kind_of, place_of, end_of}
-use Rattle.pepa_lexer.specs.declared.kinds.Kind.{Kind}
+use Rattle.pepa_lexer.specs.TokenLists.{IsTokens, tokens_along, place_of, end_of}
 use Rattle.pepa_lexer.specs.declared.kinds.Kind.TheVariants as kinds
 use Rattle.pepa_lexer.specs.declared.kinds.Token.{Token}
 use Rattle.pepa_reader.specs.declared.terminal.Terminal.{Terminal}
 use Rattle.pepa_reader.specs.declared.terminal.Terminal.TheVariants.{Small, Probe, Tau, Capital, Top, End}
-use Rattle.pepa_reader.specs.Terminals.{terminals, terminal_of, terminal_from, text_of, small_terminal, capital_terminal}
+use Rattle.pepa_reader.specs.Terminals.{terminals, terminal_of, terminal_from, text_of}
 use Rattle.pepa_reader.specs.ItemReading.{IsEnded}
 
 -- a word is no end
