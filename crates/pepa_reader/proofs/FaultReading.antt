@@ -43,17 +43,18 @@ pub record Stopped (kinds : List Terminal) (at i : ℕ) : Type 0 where
   pub undone : IsUndone state
   pub within : i < length kinds
 
-front_of_stopped : (kinds front behind : List Terminal) (i : ℕ) → kinds ≡ front ++ behind → i ≡ length front → take i kinds ≡ front
-front_of_stopped kinds front behind i whole index = rw (whole, index) (take-append_seam front behind)
+-- a front, by its length
+pub front_taken : (kinds front behind : List Terminal) (i : ℕ) → kinds ≡ front ++ behind → i ≡ length front → take i kinds ≡ front
+front_taken kinds front behind i whole index = rw (whole, index) (take-append_seam front behind)
 
 before_stop : (kinds : List Terminal) (at i : ℕ) (h : Stopped kinds at i) → take i kinds ≡ lines_spelled h.lines ++ h.text
-before_stop kinds at i h = front_of_stopped kinds (lines_spelled h.lines ++ h.text) (drop i kinds) i h.whole (omega (arith, h.from, h.index, length-append (lines_spelled h.lines) h.text))
+before_stop kinds at i h = front_taken kinds (lines_spelled h.lines ++ h.text) (drop i kinds) i h.whole (omega (arith, h.from, h.index, length-append (lines_spelled h.lines) h.text))
 
 behind_stop : (kinds : List Terminal) (at i : ℕ) (h : Stopped kinds at i) (terminal : Terminal) → drop i kinds ≡ terminal ∷ drop (suc i) kinds → take (i + 1) kinds ≡ lines_spelled h.lines ++ (h.text ++ terminal ∷ [])
 behind_stop kinds at i h terminal e =
     let parts = lines_spelled h.lines ++ h.text in
     let whole : kinds ≡ (parts ++ terminal ∷ []) ++ drop (suc i) kinds = h.whole ∙ ap (λ l. parts ++ l) e ∙ sym (append_assoc parts (terminal ∷ []) (drop (suc i) kinds)) in
-    front_of_stopped kinds (parts ++ terminal ∷ []) (drop (suc i) kinds) (i + 1) whole (omega (arith, h.from, h.index, length-append (lines_spelled h.lines) h.text, length-append parts (terminal ∷ [])))
+    front_taken kinds (parts ++ terminal ∷ []) (drop (suc i) kinds) (i + 1) whole (omega (arith, h.from, h.index, length-append (lines_spelled h.lines) h.text, length-append parts (terminal ∷ [])))
     ∙ append_assoc (lines_spelled h.lines) h.text (terminal ∷ [])
 
 pub in_item : (kinds : List Terminal) (at i : ℕ) (h : Stopped kinds at i) → IsInItem kinds i (length h.text)

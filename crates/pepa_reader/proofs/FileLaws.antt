@@ -1,21 +1,23 @@
 -- Tokens have one answer: a file has no fault, and there is one fault at most.
-use Rattle.std.proofs.Common.{◌≡◌, ◌≢◌, ℕ, ◌+◌, ◌-◌, ◌<◌, ◌≤◌, List, [], ◌∷◌, ◌++◌, length, get_or, take, drop, suc, Option, Some, None, slice_get, ◌⊎◌, inl, inr, refl, sym, ap, subst, ◌∙◌, append_assoc, append-nil, length-append, arith}
+use Rattle.std.proofs.Common.{◌≡◌, ℕ, ◌+◌, ◌-◌, ◌<◌, ◌≤◌, List, [], ◌∷◌, ◌++◌, length, get_or, take, drop, suc, Some, None, slice_get, ◌⊎◌, inl, inr, refl, sym, ap, subst, ◌∙◌, append_assoc, append-nil, length-append, arith}
 use Rattle.std.proofs.lemmas.List.{take-append-drop, length-take-le, length-drop}
-use Rattle.std.proofs.lemmas.Option.{option_and_then_some}
+use Rattle.std.proofs.lemmas.Option.{same_Some, option_and_then_some, slice_get_within}
 use Rattle.std.proofs.Math.Seq.{take-add, drop-cons}
 use Rattle.pepa_lexer.specs.declared.kinds.Token.{Token}
 use Rattle.pepa_lexer.specs.declared.kinds.Place.{Place}
-use Rattle.pepa_lexer.specs.declared.kinds.Sign.TheVariants.{Equals}
+use Rattle.pepa_lexer.specs.declared.kinds.Sign.TheVariants.{Equals, Star, OpeningBracket}
 use Rattle.pepa_reader.specs.declared.terminal.Terminal.{Terminal}
 use Rattle.pepa_reader.specs.declared.terminal.Terminal.TheVariants.{Probe, Mark, End}
 use Rattle.pepa_reader.specs.declared.fault.FileFault.{FileFault}
 use Rattle.pepa_reader.specs.declared.fault.FileFault.TheVariants.{Expected, TooDeep, Array, Wildcard, Unsupported, Memory}
+use Rattle.pepa_reader.specs.Terminals.{terminals}
 use Rattle.pepa_reader.specs.Grammar.{Probing, Process, Line, Ending, Item, OneLine, System, File, line_spelled, item_spelled, lines_spelled, file_spelled}
-use Rattle.pepa_reader.specs.FileAnswers.{most_tokens, IsFile, CanGoOn, StandsAt, CantFollow, AreShort, IsInItem, BeginsProbeLine, IsRefused, IsFaultAt}
+use Rattle.pepa_reader.specs.FileAnswers.{most_tokens, CanGoOn, StandsAt, CantFollow, AreShort, IsInItem, BeginsProbeLine, IsRefused, IsWildcard, IsFaultAt, Tells, IsFileFault}
 use Rattle.pepa_reader.specs.Machine.{State, WantEquals, Done, step, run, start}
 use Rattle.pepa_reader.specs.Reading.{Begins}
 use Rattle.pepa_reader.proofs.MachineRuns.{run-append, item_runs}
-use Rattle.pepa_reader.proofs.Places.{begins_there}
+use Rattle.pepa_reader.proofs.Places.{begins_there, stands_there}
+use Rattle.pepa_reader.proofs.FaultReading.{front_taken}
 use Rattle.pepa_reader.proofs.ItemLaws.{one_item, item_goes_on, can_go_on, cant_go_on}
 
 -- ---- lines in front of one list
@@ -118,3 +120,242 @@ part_runs n item =
     option_and_then_some (λ next. run next (drop n (item_spelled item))) (run start (take n (item_spelled item))) (Done item)
       (sym (run-append start (take n (item_spelled item)) (drop n (item_spelled item))) ∙ ap (run start) (take-append-drop n (item_spelled item)) ∙ item_runs item)
       (λ state ran more. (state, ran))
+
+-- ---- where terminals can go on
+
+shorter : (a b : List Terminal) → CanGoOn (a ++ b) → CanGoOn a
+shorter a b go = (b ++ go.0, (go.1.0, sym (append_assoc a b go.0) ∙ go.1.1))
+
+can_before : (kinds : List Terminal) (i j : ℕ) → i ≤ j → CanGoOn (take j kinds) → CanGoOn (take i kinds)
+can_before kinds i j h go =
+    let e : take j kinds ≡ take i kinds ++ take (j - i) (drop i kinds) = ap (λ n. take n kinds) (omega (arith, h)) ∙ take-add i (j - i) kinds in
+    shorter (take i kinds) (take (j - i) (drop i kinds)) (subst CanGoOn e go)
+
+-- what stands behind the lines
+behind_lines : (kinds : List Terminal) (i begun : ℕ) (h : IsInItem kinds i begun) → kinds ≡ lines_spelled h.lines ++ (take begun (item_spelled h.item) ++ drop i kinds)
+behind_lines kinds i begun h = sym (take-append-drop i kinds) ∙ ap (λ l. l ++ drop i kinds) h.before ∙ append_assoc (lines_spelled h.lines) (take begun (item_spelled h.item)) (drop i kinds)
+
+item_can_go_on : (kinds : List Terminal) (i begun : ℕ) → IsInItem kinds i begun → CanGoOn (take i kinds)
+item_can_go_on kinds i begun h = subst CanGoOn (sym h.before) (item_goes_on h.lines h.item (take begun (item_spelled h.item)) (drop begun (item_spelled h.item)) (sym (take-append-drop begun (item_spelled h.item))))
+
+-- a `probe` line, and what stands before it
+record Probes (kinds : List Terminal) (i : ℕ) : Type 0 where
+  lines : List Line
+  short : AreShort lines
+  whole : kinds ≡ lines_spelled lines ++ drop i kinds
+  index : i ≡ length (lines_spelled lines)
+  front : IsProbeFront (drop i kinds)
+  within : i < length kinds
+
+probes : (kinds : List Terminal) (i : ℕ) → BeginsProbeLine kinds i → Probes kinds i
+probes kinds i h =
+    let within = slice_get_within kinds i Probe h.probe in
+    let e : drop i kinds ≡ get_or kinds i End ∷ drop (i + 1) kinds = drop-cons kinds i End within ∙ ap (λ n. get_or kinds i End ∷ drop n kinds) {x = suc i} {y = i + 1} (omega arith) in
+    record { lines = h.begins.lines; short = h.begins.short; whole = behind_lines kinds i 0 h.begins; index = omega (arith, h.begins.index);
+             front = is_probe_front (drop i kinds) (drop (i + 1) kinds) (get_or kinds i End) e (begins_there kinds i Probe h.probe) (λ b. h.behind (stands_there kinds (i + 1) (Mark Equals) b));
+             within = within }
+
+-- ---- two faults
+
+-- no terminal can follow, and some can: the second isn't behind the first
+not_before : (kinds : List Terminal) (i j : ℕ) → CantFollow kinds i → CanGoOn (take j kinds) → j ≤ i
+not_before kinds i j h go = omega (arith, λ (before : i < j). h.behind (can_before kinds (i + 1) j (omega arith) go))
+
+cant_cant : (kinds : List Terminal) (i j : ℕ) → CantFollow kinds i → CantFollow kinds j → i ≡ j
+cant_cant kinds i j h k = omega (arith, not_before kinds i j h k.before, not_before kinds j i k h.before)
+
+refused_deep : (kinds : List Terminal) (i j : ℕ) → IsRefused kinds i → IsInItem kinds j most_tokens → ⊥
+refused_deep kinds i j h k =
+    let a = h.in_item in
+    let before : j ≤ i = not_before kinds i j h.first (item_can_go_on kinds j most_tokens k) in
+    let x = take h.begun (item_spelled a.item) ++ drop i kinds in
+    let y = take most_tokens (item_spelled k.item) ++ drop j kinds in
+    elim (line_up a.lines k.lines x y (sym (behind_lines kinds i h.begun a) ∙ behind_lines kinds j most_tokens k))
+      [ inl e ↦ absurd (omega (arith, h.few, e.len, a.index, k.index))
+      | inr e ↦ elim e
+          [ inl l ↦ part_front h.begun a.item (OneLine l.line) (drop i kinds) l.more a.more (omega (arith, l.within, a.index, k.index)) l.spelled
+          | inr l ↦ part_front most_tokens k.item (OneLine l.line) (drop j kinds) l.more k.more (l.short a.short) l.spelled ] ]
+
+deep_deep : (kinds : List Terminal) (i j : ℕ) → IsInItem kinds i most_tokens → IsInItem kinds j most_tokens → i ≡ j
+deep_deep kinds i j h k =
+    let x = take most_tokens (item_spelled h.item) ++ drop i kinds in
+    let y = take most_tokens (item_spelled k.item) ++ drop j kinds in
+    elim (line_up h.lines k.lines x y (sym (behind_lines kinds i most_tokens h) ∙ behind_lines kinds j most_tokens k))
+      [ inl e ↦ omega (arith, e.len, h.index, k.index)
+      | inr e ↦ elim e
+          [ inl l ↦ absurd (part_front most_tokens h.item (OneLine l.line) (drop i kinds) l.more h.more (l.short k.short) l.spelled)
+          | inr l ↦ absurd (part_front most_tokens k.item (OneLine l.line) (drop j kinds) l.more k.more (l.short h.short) l.spelled) ] ]
+
+deep_probe : (kinds : List Terminal) (i j : ℕ) → IsInItem kinds i most_tokens → BeginsProbeLine kinds j → ⊥
+deep_probe kinds i j h probe =
+    let k = probes kinds j probe in
+    let part = take most_tokens (item_spelled h.item) in
+    let len : length part ≡ most_tokens = length-take-le most_tokens (item_spelled h.item) (omega (arith, h.more)) in
+    let ran = part_runs most_tokens h.item in
+    elim (line_up h.lines k.lines (part ++ drop i kinds) (drop j kinds) (sym (behind_lines kinds i most_tokens h) ∙ k.whole))
+      [ inl e ↦ probe_stops part (drop i kinds) ran.0 (subst IsProbeFront (sym e.same) k.front) (omega arith) ran.1
+      | inr e ↦ elim e
+          [ inl l ↦ part_front most_tokens h.item (OneLine l.line) (drop i kinds) l.more h.more (l.short k.short) l.spelled
+          | inr l ↦ no_item_at_probe (drop j kinds) l.more (OneLine l.line) k.front l.spelled ] ]
+
+probe_probe : (kinds : List Terminal) (i j : ℕ) → BeginsProbeLine kinds i → BeginsProbeLine kinds j → i ≡ j
+probe_probe kinds i j one other =
+    let h = probes kinds i one in
+    let k = probes kinds j other in
+    elim (line_up h.lines k.lines (drop i kinds) (drop j kinds) (sym h.whole ∙ k.whole))
+      [ inl e ↦ omega (arith, e.len, h.index, k.index)
+      | inr e ↦ elim e
+          [ inl l ↦ absurd (no_item_at_probe (drop i kinds) l.more (OneLine l.line) h.front l.spelled)
+          | inr l ↦ absurd (no_item_at_probe (drop j kinds) l.more (OneLine l.line) k.front l.spelled) ] ]
+
+probe_runs : run start (Probe ∷ []) ≡ Some (WantEquals Probing)
+unfolding run step
+probe_runs = refl
+
+front_probe : (rest : List Terminal) → IsProbeFront rest → (more : List Terminal) × (rest ≡ Probe ∷ more)
+front_probe (Probe ∷ Mark Equals ∷ more) p = absurd p
+front_probe (Probe ∷ more) p = (more, refl)
+front_probe _ p = absurd p
+
+front_second : (rest : List Terminal) → IsProbeFront rest → 1 < length rest → (second : Terminal) × (more : List Terminal) × (rest ≡ Probe ∷ second ∷ more) × (step (WantEquals Probing) second ≡ None)
+unfolding step
+front_second (Probe ∷ Mark Equals ∷ more) p long = absurd p
+front_second (Probe ∷ []) p long = absurd (omega arith)
+front_second (Probe ∷ second ∷ more) p long = (second, more, refl, refl)
+front_second _ p long = absurd p
+
+-- up to the word `probe` terminals can go on, and with what stands behind it they can't
+probe_goes_on : (kinds : List Terminal) (j : ℕ) → Probes kinds j → CanGoOn (take (j + 1) kinds)
+probe_goes_on kinds j k =
+    let front = front_probe (drop j kinds) k.front in
+    let text = Probe ∷ [] in
+    let e : take (j + 1) kinds ≡ lines_spelled k.lines ++ text =
+        front_taken kinds (lines_spelled k.lines ++ text) front.0 (j + 1) (k.whole ∙ ap (λ l. lines_spelled k.lines ++ l) front.1 ∙ sym (append_assoc (lines_spelled k.lines) text front.0)) (omega (arith, k.index, length-append (lines_spelled k.lines) text)) in
+    subst CanGoOn (sym e) (can_go_on k.lines text (WantEquals Probing) probe_runs tt)
+
+probe_ends : (kinds : List Terminal) (j : ℕ) → Probes kinds j → j + 1 < length kinds → ¬ CanGoOn (take (j + 2) kinds)
+probe_ends kinds j k some =
+    let front = front_second (drop j kinds) k.front (omega (arith, length-drop j kinds)) in
+    let text = Probe ∷ front.0 ∷ [] in
+    let e : take (j + 2) kinds ≡ lines_spelled k.lines ++ text =
+        front_taken kinds (lines_spelled k.lines ++ text) front.1 (j + 2) (k.whole ∙ ap (λ l. lines_spelled k.lines ++ l) front.2 ∙ sym (append_assoc (lines_spelled k.lines) text front.1)) (omega (arith, k.index, length-append (lines_spelled k.lines) text)) in
+    λ go. cant_go_on k.lines (Probe ∷ []) (WantEquals Probing) front.0 probe_runs tt front.3 (subst CanGoOn e go)
+
+refused_probe : (kinds : List Terminal) (i j : ℕ) → IsRefused kinds i → BeginsProbeLine kinds j → ⊥
+refused_probe kinds i j h probe =
+    let k = probes kinds j probe in
+    let a = h.in_item in
+    let behind : j + 1 ≤ i = not_before kinds i (j + 1) h.first (probe_goes_on kinds j k) in
+    let next : i ≡ j + 1 = omega (arith, h.first.within, λ (far : j + 2 ≤ i). probe_ends kinds j k (omega (arith, h.first.within, far)) (can_before kinds (j + 2) i far h.first.before)) in
+    elim (line_up a.lines k.lines (take h.begun (item_spelled a.item) ++ drop i kinds) (drop j kinds) (sym (behind_lines kinds i h.begun a) ∙ k.whole))
+      [ inl e ↦ h.no_probe_line j (omega (arith, e.len, a.index, k.index, next)) next probe.probe
+      | inr e ↦ elim e
+          [ inl l ↦ part_front h.begun a.item (OneLine l.line) (drop i kinds) l.more a.more (omega (arith, l.within, a.index, k.index, behind)) l.spelled
+          | inr l ↦ no_item_at_probe (drop j kinds) l.more (OneLine l.line) k.front l.spelled ] ]
+
+-- ---- files and faults
+
+file_cant : (file : File) (i : ℕ) → ¬ CantFollow (file_spelled file) i
+file_cant file i h = h.behind (drop (i + 1) (file_spelled file), (file, take-append-drop (i + 1) (file_spelled file)))
+
+file_deep : (file : File) (i : ℕ) → AreShort file.lines → length (item_spelled (System file.system file.ending)) ≤ most_tokens → ¬ IsInItem (file_spelled file) i most_tokens
+file_deep file i short short_system h =
+    let last = System file.system file.ending in
+    let rest = drop i (file_spelled file) in
+    let part = take most_tokens (item_spelled h.item) ++ rest in
+    elim (line_up h.lines file.lines part (item_spelled last) (sym (behind_lines (file_spelled file) i most_tokens h)))
+      [ inl e ↦ part_front most_tokens h.item last rest [] h.more short_system (e.same ∙ sym (append-nil (item_spelled last)))
+      | inr e ↦ elim e
+          [ inl l ↦ part_front most_tokens h.item (OneLine l.line) rest l.more h.more (l.short short) l.spelled
+          | inr l ↦ no_line_in_front l.line file.system file.ending l.more l.spelled ] ]
+
+file_probe : (file : File) (i : ℕ) → ¬ BeginsProbeLine (file_spelled file) i
+file_probe file i probe =
+    let h = probes (file_spelled file) i probe in
+    let last = System file.system file.ending in
+    let rest = drop i (file_spelled file) in
+    elim (line_up h.lines file.lines rest (item_spelled last) (sym h.whole))
+      [ inl e ↦ no_item_at_probe rest [] last h.front (e.same ∙ sym (append-nil (item_spelled last)))
+      | inr e ↦ elim e
+          [ inl l ↦ no_item_at_probe rest l.more (OneLine l.line) h.front l.spelled
+          | inr l ↦ no_line_in_front l.line file.system file.ending l.more l.spelled ] ]
+
+pub no_fault : (file : File) (i : ℕ) (fault : FileFault) → AreShort file.lines → length (item_spelled (System file.system file.ending)) ≤ most_tokens → ¬ IsFaultAt (file_spelled file) i fault
+no_fault file i (Expected place) short short_system h = file_cant file i h.0.first
+no_fault file i (Array place) short short_system h = file_cant file i h.0.first
+no_fault file i (Wildcard place) short short_system h = file_cant file i h.0.first
+no_fault file i (TooDeep place) short short_system h = file_deep file i short short_system h.0
+no_fault file i (Unsupported place) short short_system h = file_probe file i h
+no_fault file i Memory short short_system h = h
+
+-- ---- one fault
+
+-- why there is a fault at an index
+abbrev Class : List Terminal → ℕ → Type 0
+Class kinds i = IsRefused kinds i ⊎ (IsInItem kinds i most_tokens ⊎ BeginsProbeLine kinds i)
+
+class_of : (kinds : List Terminal) (i : ℕ) (fault : FileFault) → IsFaultAt kinds i fault → Class kinds i
+class_of kinds i (Expected place) h = inl h.0
+class_of kinds i (Array place) h = inl h.0
+class_of kinds i (Wildcard place) h = inl h.0
+class_of kinds i (TooDeep place) h = inr (inl h.0)
+class_of kinds i (Unsupported place) h = inr (inr h)
+class_of kinds i Memory h = absurd h
+
+one_place : (kinds : List Terminal) (i j : ℕ) → Class kinds i → Class kinds j → i ≡ j
+one_place kinds i j (inl h) (inl k) = cant_cant kinds i j h.first k.first
+one_place kinds i j (inl h) (inr (inl k)) = absurd (refused_deep kinds i j h k)
+one_place kinds i j (inl h) (inr (inr k)) = absurd (refused_probe kinds i j h k)
+one_place kinds i j (inr (inl h)) (inl k) = absurd (refused_deep kinds j i k h)
+one_place kinds i j (inr (inl h)) (inr (inl k)) = deep_deep kinds i j h k
+one_place kinds i j (inr (inl h)) (inr (inr k)) = absurd (deep_probe kinds i j h k)
+one_place kinds i j (inr (inr h)) (inl k) = absurd (refused_probe kinds j i k h)
+one_place kinds i j (inr (inr h)) (inr (inl k)) = absurd (deep_probe kinds j i k h)
+one_place kinds i j (inr (inr h)) (inr (inr k)) = probe_probe kinds i j h k
+
+pub one_index : (kinds : List Terminal) (i j : ℕ) (fault other : FileFault) → IsFaultAt kinds i fault → IsFaultAt kinds j other → i ≡ j
+one_index kinds i j fault other h k = one_place kinds i j (class_of kinds i fault h) (class_of kinds j other k)
+
+-- no wildcard is a `[`
+no_wild_array : (kinds : List Terminal) (i : ℕ) → StandsAt kinds i (Mark OpeningBracket) → ¬ IsWildcard kinds i
+no_wild_array kinds i array wildcard = differ (sym array ∙ wildcard.0)
+  where
+    differ : Some (Mark OpeningBracket) ≡ Some (Mark Star) → ⊥
+    differ e = cc
+
+-- faults at one index, at one place, are one
+same_fault : (kinds : List Terminal) (i : ℕ) (place : Place) (fault other : FileFault) → IsFaultAt kinds i fault → IsFaultAt kinds i other → Tells fault place → Tells other place → fault ≡ other
+same_fault kinds i place (Expected p) (Expected q) h k there here = cc
+same_fault kinds i place (Expected p) (Array q) h k there here = absurd (h.1 k.1)
+same_fault kinds i place (Expected p) (Wildcard q) h k there here = absurd (h.2 k.1)
+same_fault kinds i place (Expected p) (TooDeep q) h k there here = absurd (refused_deep kinds i i h.0 k.0)
+same_fault kinds i place (Expected p) (Unsupported q) h k there here = absurd (refused_probe kinds i i h.0 k)
+same_fault kinds i place (Array p) (Expected q) h k there here = absurd (k.1 h.1)
+same_fault kinds i place (Array p) (Array q) h k there here = cc
+same_fault kinds i place (Array p) (Wildcard q) h k there here = absurd (no_wild_array kinds i h.1 k.1)
+same_fault kinds i place (Array p) (TooDeep q) h k there here = absurd (refused_deep kinds i i h.0 k.0)
+same_fault kinds i place (Array p) (Unsupported q) h k there here = absurd (refused_probe kinds i i h.0 k)
+same_fault kinds i place (Wildcard p) (Expected q) h k there here = absurd (k.2 h.1)
+same_fault kinds i place (Wildcard p) (Array q) h k there here = absurd (no_wild_array kinds i k.1 h.1)
+same_fault kinds i place (Wildcard p) (Wildcard q) h k there here = cc
+same_fault kinds i place (Wildcard p) (TooDeep q) h k there here = absurd (refused_deep kinds i i h.0 k.0)
+same_fault kinds i place (Wildcard p) (Unsupported q) h k there here = absurd (refused_probe kinds i i h.0 k)
+same_fault kinds i place (TooDeep p) (Expected q) h k there here = absurd (refused_deep kinds i i k.0 h.0)
+same_fault kinds i place (TooDeep p) (Array q) h k there here = absurd (refused_deep kinds i i k.0 h.0)
+same_fault kinds i place (TooDeep p) (Wildcard q) h k there here = absurd (refused_deep kinds i i k.0 h.0)
+same_fault kinds i place (TooDeep p) (TooDeep q) h k there here = cc
+same_fault kinds i place (TooDeep p) (Unsupported q) h k there here = absurd (deep_probe kinds i i h.0 k)
+same_fault kinds i place (Unsupported p) (Expected q) h k there here = absurd (refused_probe kinds i i k.0 h)
+same_fault kinds i place (Unsupported p) (Array q) h k there here = absurd (refused_probe kinds i i k.0 h)
+same_fault kinds i place (Unsupported p) (Wildcard q) h k there here = absurd (refused_probe kinds i i k.0 h)
+same_fault kinds i place (Unsupported p) (TooDeep q) h k there here = absurd (deep_probe kinds i i k.0 h)
+same_fault kinds i place (Unsupported p) (Unsupported q) h k there here = cc
+same_fault kinds i place Memory other h k there here = absurd h
+same_fault kinds i place _ Memory h k there here = absurd k
+
+pub one_fault : (input : List ℕ) (tokens : List Token) (fault other : FileFault) → IsFileFault input tokens fault → IsFileFault input tokens other → fault ≡ other
+one_fault input tokens fault other h k =
+    let kinds = terminals input tokens in
+    let index = one_index kinds h.i k.i fault other h.is_fault k.is_fault in
+    let token : h.token ≡ k.token = same_Some h.token k.token (sym h.is_token ∙ ap (slice_get tokens) index ∙ k.is_token) in
+    same_fault kinds h.i h.token.place fault other h.is_fault (subst (λ n. IsFaultAt kinds n other) (sym index) k.is_fault) h.place (subst (λ t. Tells other t.place) (sym token) k.place)
