@@ -17,7 +17,7 @@ use Rattle.pepa_reader.specs.Machine.{State, WantEquals, Done, step, run, start}
 use Rattle.pepa_reader.specs.Reading.{Begins}
 use Rattle.pepa_reader.proofs.MachineRuns.{run-append, item_runs}
 use Rattle.pepa_reader.proofs.Places.{begins_there, stands_there}
-use Rattle.pepa_reader.proofs.FaultReading.{front_taken}
+use Rattle.pepa_reader.proofs.FaultReading.{front_taken, probe_runs}
 use Rattle.pepa_reader.proofs.ItemLaws.{one_item, item_goes_on, can_go_on, cant_go_on}
 
 -- ---- lines in front of one list
@@ -35,6 +35,7 @@ record Even (lines others : List Line) (x y : List Terminal) : Type 0 where
   same : x ≡ y
   len : length (lines_spelled lines) ≡ length (lines_spelled others)
 
+-- lines in front of one list are as many, or one of them stands behind the others
 line_up : (lines others : List Line) (x y : List Terminal) → lines_spelled lines ++ x ≡ lines_spelled others ++ y → Even lines others x y ⊎ (Ahead lines others x ⊎ Ahead others lines y)
 line_up [] [] x y e = inl (record { same = e; len = refl })
 line_up [] (other ∷ others) x y e = inr (inl (record { line = other; more = lines_spelled others ++ y; spelled = e ∙ append_assoc (line_spelled other) (lines_spelled others) y; within = omega (arith, length-append (line_spelled other) (lines_spelled others)); short = λ s. s.0 }))
@@ -52,6 +53,7 @@ line_up (line ∷ lines) (other ∷ others) x y e =
 
 -- ---- parts of items
 
+-- of two fronts the longer begins with the shorter
 longer_front : (u v r s : List Terminal) → u ++ r ≡ v ++ s → length v ≤ length u → u ≡ v ++ drop (length v) u
 longer_front u [] r s e h = refl
 longer_front [] (y ∷ v) r s e h = absurd (omega arith)
@@ -86,6 +88,7 @@ IsProbeFront (Probe ∷ Mark Equals ∷ more) = ⊥
 IsProbeFront (Probe ∷ more) = Unit {0}
 IsProbeFront _ = ⊥
 
+-- from what stands at the two places
 is_probe_front : (rest behind : List Terminal) (first : Terminal) → rest ≡ first ∷ behind → Begins rest Probe → ¬ Begins behind (Mark Equals) → IsProbeFront rest
 is_probe_front rest behind first e begins other = subst IsProbeFront (sym e) (cases first behind (rw e at begins) other)
   where
@@ -112,9 +115,11 @@ no_item_there (Probe ∷ []) more item p ran = cc
 no_item_there (_ ∷ []) more item p ran = p
 no_item_there (t ∷ u ∷ text) more item p ran = probe_stops (t ∷ u ∷ text) more (Done item) p (omega arith) ran
 
+-- no item stands there
 no_item_at_probe : (rest more : List Terminal) (item : Item) → IsProbeFront rest → rest ≡ item_spelled item ++ more → ⊥
 no_item_at_probe rest more item p e = no_item_there (item_spelled item) more item (subst IsProbeFront e p) (item_runs item)
 
+-- the machine reads a part of an item
 part_runs : (n : ℕ) (item : Item) → (state : State) × (run start (take n (item_spelled item)) ≡ Some state)
 part_runs n item =
     option_and_then_some (λ next. run next (drop n (item_spelled item))) (run start (take n (item_spelled item))) (Done item)
@@ -123,9 +128,11 @@ part_runs n item =
 
 -- ---- where terminals can go on
 
+-- a front can go on where the whole can
 shorter : (a b : List Terminal) → CanGoOn (a ++ b) → CanGoOn a
 shorter a b go = (b ++ go.0, (go.1.0, sym (append_assoc a b go.0) ∙ go.1.1))
 
+-- and so can what stands before
 can_before : (kinds : List Terminal) (i j : ℕ) → i ≤ j → CanGoOn (take j kinds) → CanGoOn (take i kinds)
 can_before kinds i j h go =
     let e : take j kinds ≡ take i kinds ++ take (j - i) (drop i kinds) = ap (λ n. take n kinds) (omega (arith, h)) ∙ take-add i (j - i) kinds in
@@ -135,6 +142,7 @@ can_before kinds i j h go =
 behind_lines : (kinds : List Terminal) (i begun : ℕ) (h : IsInItem kinds i begun) → kinds ≡ lines_spelled h.lines ++ (take begun (item_spelled h.item) ++ drop i kinds)
 behind_lines kinds i begun h = sym (take-append-drop i kinds) ∙ ap (λ l. l ++ drop i kinds) h.before ∙ append_assoc (lines_spelled h.lines) (take begun (item_spelled h.item)) (drop i kinds)
 
+-- a part of an item can go on
 item_can_go_on : (kinds : List Terminal) (i begun : ℕ) → IsInItem kinds i begun → CanGoOn (take i kinds)
 item_can_go_on kinds i begun h = subst CanGoOn (sym h.before) (item_goes_on h.lines h.item (take begun (item_spelled h.item)) (drop begun (item_spelled h.item)) (sym (take-append-drop begun (item_spelled h.item))))
 
@@ -147,6 +155,7 @@ record Probes (kinds : List Terminal) (i : ℕ) : Type 0 where
   front : IsProbeFront (drop i kinds)
   within : i < length kinds
 
+-- what a probe line is
 probes : (kinds : List Terminal) (i : ℕ) → BeginsProbeLine kinds i → Probes kinds i
 probes kinds i h =
     let within = slice_get_within kinds i Probe h.probe in
@@ -161,9 +170,11 @@ probes kinds i h =
 not_before : (kinds : List Terminal) (i j : ℕ) → CantFollow kinds i → CanGoOn (take j kinds) → j ≤ i
 not_before kinds i j h go = omega (arith, λ (before : i < j). h.behind (can_before kinds (i + 1) j (omega arith) go))
 
+-- one terminal is the first that can't follow
 cant_cant : (kinds : List Terminal) (i j : ℕ) → CantFollow kinds i → CantFollow kinds j → i ≡ j
 cant_cant kinds i j h k = omega (arith, not_before kinds i j h k.before, not_before kinds j i k h.before)
 
+-- no item of too many terminals beside a refused terminal
 refused_deep : (kinds : List Terminal) (i j : ℕ) → IsRefused kinds i → IsInItem kinds j most_tokens → ⊥
 refused_deep kinds i j h k =
     let a = h.in_item in
@@ -176,6 +187,7 @@ refused_deep kinds i j h k =
           [ inl l ↦ part_front h.begun a.item (OneLine l.line) (drop i kinds) l.more a.more (omega (arith, l.within, a.index, k.index)) l.spelled
           | inr l ↦ part_front most_tokens k.item (OneLine l.line) (drop j kinds) l.more k.more (l.short a.short) l.spelled ] ]
 
+-- one item is the first of too many terminals
 deep_deep : (kinds : List Terminal) (i j : ℕ) → IsInItem kinds i most_tokens → IsInItem kinds j most_tokens → i ≡ j
 deep_deep kinds i j h k =
     let x = take most_tokens (item_spelled h.item) ++ drop i kinds in
@@ -186,6 +198,7 @@ deep_deep kinds i j h k =
           [ inl l ↦ absurd (part_front most_tokens h.item (OneLine l.line) (drop i kinds) l.more h.more (l.short k.short) l.spelled)
           | inr l ↦ absurd (part_front most_tokens k.item (OneLine l.line) (drop j kinds) l.more k.more (l.short h.short) l.spelled) ] ]
 
+-- no probe line beside it
 deep_probe : (kinds : List Terminal) (i j : ℕ) → IsInItem kinds i most_tokens → BeginsProbeLine kinds j → ⊥
 deep_probe kinds i j h probe =
     let k = probes kinds j probe in
@@ -198,6 +211,7 @@ deep_probe kinds i j h probe =
           [ inl l ↦ part_front most_tokens h.item (OneLine l.line) (drop i kinds) l.more h.more (l.short k.short) l.spelled
           | inr l ↦ no_item_at_probe (drop j kinds) l.more (OneLine l.line) k.front l.spelled ] ]
 
+-- one probe line is the first
 probe_probe : (kinds : List Terminal) (i j : ℕ) → BeginsProbeLine kinds i → BeginsProbeLine kinds j → i ≡ j
 probe_probe kinds i j one other =
     let h = probes kinds i one in
@@ -208,15 +222,13 @@ probe_probe kinds i j one other =
           [ inl l ↦ absurd (no_item_at_probe (drop i kinds) l.more (OneLine l.line) h.front l.spelled)
           | inr l ↦ absurd (no_item_at_probe (drop j kinds) l.more (OneLine l.line) k.front l.spelled) ] ]
 
-probe_runs : run start (Probe ∷ []) ≡ Some (WantEquals Probing)
-unfolding run step
-probe_runs = refl
-
+-- its word
 front_probe : (rest : List Terminal) → IsProbeFront rest → (more : List Terminal) × (rest ≡ Probe ∷ more)
 front_probe (Probe ∷ Mark Equals ∷ more) p = absurd p
 front_probe (Probe ∷ more) p = (more, refl)
 front_probe _ p = absurd p
 
+-- and what stands behind
 front_second : (rest : List Terminal) → IsProbeFront rest → 1 < length rest → (second : Terminal) × (more : List Terminal) × (rest ≡ Probe ∷ second ∷ more) × (step (WantEquals Probing) second ≡ None)
 unfolding step
 front_second (Probe ∷ Mark Equals ∷ more) p long = absurd p
@@ -224,7 +236,7 @@ front_second (Probe ∷ []) p long = absurd (omega arith)
 front_second (Probe ∷ second ∷ more) p long = (second, more, refl, refl)
 front_second _ p long = absurd p
 
--- up to the word `probe` terminals can go on, and with what stands behind it they can't
+-- up to the word `probe` terminals can go on
 probe_goes_on : (kinds : List Terminal) (j : ℕ) → Probes kinds j → CanGoOn (take (j + 1) kinds)
 probe_goes_on kinds j k =
     let front = front_probe (drop j kinds) k.front in
@@ -233,6 +245,7 @@ probe_goes_on kinds j k =
         front_taken kinds (lines_spelled k.lines ++ text) front.0 (j + 1) (k.whole ∙ ap (λ l. lines_spelled k.lines ++ l) front.1 ∙ sym (append_assoc (lines_spelled k.lines) text front.0)) (omega (arith, k.index, length-append (lines_spelled k.lines) text)) in
     subst CanGoOn (sym e) (can_go_on k.lines text (WantEquals Probing) probe_runs tt)
 
+-- with what stands behind `probe` they can't
 probe_ends : (kinds : List Terminal) (j : ℕ) → Probes kinds j → j + 1 < length kinds → ¬ CanGoOn (take (j + 2) kinds)
 probe_ends kinds j k some =
     let front = front_second (drop j kinds) k.front (omega (arith, length-drop j kinds)) in
@@ -241,6 +254,7 @@ probe_ends kinds j k some =
         front_taken kinds (lines_spelled k.lines ++ text) front.1 (j + 2) (k.whole ∙ ap (λ l. lines_spelled k.lines ++ l) front.2 ∙ sym (append_assoc (lines_spelled k.lines) text front.1)) (omega (arith, k.index, length-append (lines_spelled k.lines) text)) in
     λ go. cant_go_on k.lines (Probe ∷ []) (WantEquals Probing) front.0 probe_runs tt front.3 (subst CanGoOn e go)
 
+-- no refused terminal beside a probe line
 refused_probe : (kinds : List Terminal) (i j : ℕ) → IsRefused kinds i → BeginsProbeLine kinds j → ⊥
 refused_probe kinds i j h probe =
     let k = probes kinds j probe in
@@ -255,9 +269,11 @@ refused_probe kinds i j h probe =
 
 -- ---- files and faults
 
+-- in a file every terminal can follow
 file_cant : (file : File) (i : ℕ) → ¬ CantFollow (file_spelled file) i
 file_cant file i h = h.behind (drop (i + 1) (file_spelled file), (file, take-append-drop (i + 1) (file_spelled file)))
 
+-- its items are short
 file_deep : (file : File) (i : ℕ) → AreShort file.lines → length (item_spelled (System file.system file.ending)) ≤ most_tokens → ¬ IsInItem (file_spelled file) i most_tokens
 file_deep file i short short_system h =
     let last = System file.system file.ending in
@@ -269,6 +285,7 @@ file_deep file i short short_system h =
           [ inl l ↦ part_front most_tokens h.item (OneLine l.line) rest l.more h.more (l.short short) l.spelled
           | inr l ↦ no_line_in_front l.line file.system file.ending l.more l.spelled ] ]
 
+-- and none is a probe line
 file_probe : (file : File) (i : ℕ) → ¬ BeginsProbeLine (file_spelled file) i
 file_probe file i probe =
     let h = probes (file_spelled file) i probe in
@@ -280,6 +297,7 @@ file_probe file i probe =
           [ inl l ↦ no_item_at_probe rest l.more (OneLine l.line) h.front l.spelled
           | inr l ↦ no_line_in_front l.line file.system file.ending l.more l.spelled ] ]
 
+-- a file has no fault
 pub no_fault : (file : File) (i : ℕ) (fault : FileFault) → AreShort file.lines → length (item_spelled (System file.system file.ending)) ≤ most_tokens → ¬ IsFaultAt (file_spelled file) i fault
 no_fault file i (Expected place) short short_system h = file_cant file i h.0.first
 no_fault file i (Array place) short short_system h = file_cant file i h.0.first
@@ -294,6 +312,7 @@ no_fault file i Memory short short_system h = h
 abbrev Class : List Terminal → ℕ → Type 0
 Class kinds i = IsRefused kinds i ⊎ (IsInItem kinds i most_tokens ⊎ BeginsProbeLine kinds i)
 
+-- a refused terminal, an item of too many, or a probe line
 class_of : (kinds : List Terminal) (i : ℕ) (fault : FileFault) → IsFaultAt kinds i fault → Class kinds i
 class_of kinds i (Expected place) h = inl h.0
 class_of kinds i (Array place) h = inl h.0
@@ -302,6 +321,7 @@ class_of kinds i (TooDeep place) h = inr (inl h.0)
 class_of kinds i (Unsupported place) h = inr (inr h)
 class_of kinds i Memory h = absurd h
 
+-- they stand at one index
 one_place : (kinds : List Terminal) (i j : ℕ) → Class kinds i → Class kinds j → i ≡ j
 one_place kinds i j (inl h) (inl k) = cant_cant kinds i j h.first k.first
 one_place kinds i j (inl h) (inr (inl k)) = absurd (refused_deep kinds i j h k)
@@ -313,6 +333,7 @@ one_place kinds i j (inr (inr h)) (inl k) = absurd (refused_probe kinds j i k h)
 one_place kinds i j (inr (inr h)) (inr (inl k)) = absurd (deep_probe kinds j i k h)
 one_place kinds i j (inr (inr h)) (inr (inr k)) = probe_probe kinds i j h k
 
+-- faults stand at one index
 pub one_index : (kinds : List Terminal) (i j : ℕ) (fault other : FileFault) → IsFaultAt kinds i fault → IsFaultAt kinds j other → i ≡ j
 one_index kinds i j fault other h k = one_place kinds i j (class_of kinds i fault h) (class_of kinds j other k)
 
@@ -353,6 +374,7 @@ same_fault kinds i place (Unsupported p) (Unsupported q) h k there here = cc
 same_fault kinds i place Memory other h k there here = absurd h
 same_fault kinds i place _ Memory h k there here = absurd k
 
+-- tokens have one fault
 pub one_fault : (input : List ℕ) (tokens : List Token) (fault other : FileFault) → IsFileFault input tokens fault → IsFileFault input tokens other → fault ≡ other
 one_fault input tokens fault other h k =
     let kinds = terminals input tokens in
