@@ -20,6 +20,7 @@ use Rattle.pepa_reader.proofs.ItemLaws.{begins_item, can_go_on, cant_go_on}
 
 -- ---- items that aren't read
 
+-- for every fault
 pub item_fails : (input : List ℕ) (tokens : List Token) (at : ℕ) (fault : FileFault) → IsItemFault input tokens at fault → ReadsItemAt input tokens at (Err fault)
 item_fails input tokens at (faults.Expected place) h = h
 item_fails input tokens at (faults.TooDeep place) h = h
@@ -43,19 +44,23 @@ pub record Stopped (kinds : List Terminal) (at i : ℕ) : Type 0 where
   pub undone : IsUndone state
   pub within : i < length kinds
 
-front_of_stopped : (kinds front behind : List Terminal) (i : ℕ) → kinds ≡ front ++ behind → i ≡ length front → take i kinds ≡ front
-front_of_stopped kinds front behind i whole index = rw (whole, index) (take-append_seam front behind)
+-- a front, by its length
+pub front_taken : (kinds front behind : List Terminal) (i : ℕ) → kinds ≡ front ++ behind → i ≡ length front → take i kinds ≡ front
+front_taken kinds front behind i whole index = rw (whole, index) (take-append_seam front behind)
 
+-- what stands before the stop
 before_stop : (kinds : List Terminal) (at i : ℕ) (h : Stopped kinds at i) → take i kinds ≡ lines_spelled h.lines ++ h.text
-before_stop kinds at i h = front_of_stopped kinds (lines_spelled h.lines ++ h.text) (drop i kinds) i h.whole (omega (arith, h.from, h.index, length-append (lines_spelled h.lines) h.text))
+before_stop kinds at i h = front_taken kinds (lines_spelled h.lines ++ h.text) (drop i kinds) i h.whole (omega (arith, h.from, h.index, length-append (lines_spelled h.lines) h.text))
 
+-- and with the terminal there
 behind_stop : (kinds : List Terminal) (at i : ℕ) (h : Stopped kinds at i) (terminal : Terminal) → drop i kinds ≡ terminal ∷ drop (suc i) kinds → take (i + 1) kinds ≡ lines_spelled h.lines ++ (h.text ++ terminal ∷ [])
 behind_stop kinds at i h terminal e =
     let parts = lines_spelled h.lines ++ h.text in
     let whole : kinds ≡ (parts ++ terminal ∷ []) ++ drop (suc i) kinds = h.whole ∙ ap (λ l. parts ++ l) e ∙ sym (append_assoc parts (terminal ∷ []) (drop (suc i) kinds)) in
-    front_of_stopped kinds (parts ++ terminal ∷ []) (drop (suc i) kinds) (i + 1) whole (omega (arith, h.from, h.index, length-append (lines_spelled h.lines) h.text, length-append parts (terminal ∷ [])))
+    front_taken kinds (parts ++ terminal ∷ []) (drop (suc i) kinds) (i + 1) whole (omega (arith, h.from, h.index, length-append (lines_spelled h.lines) h.text, length-append parts (terminal ∷ [])))
     ∙ append_assoc (lines_spelled h.lines) h.text (terminal ∷ [])
 
+-- the stop is inside an item
 pub in_item : (kinds : List Terminal) (at i : ℕ) (h : Stopped kinds at i) → IsInItem kinds i (length h.text)
 in_item kinds at i h =
     let begun = begins_item h.text h.state h.ran h.undone in
@@ -68,9 +73,11 @@ in_item kinds at i h =
       more = begun.2;
     }
 
+-- the first terminal is refused
 refused_step : (state : State) (terminal : Terminal) (rest more : List Terminal) → rest ≡ terminal ∷ more → Refuses state rest → step state terminal ≡ None
 refused_step state terminal rest more e r = rw e at r
 
+-- where the machine refuses the terminal, it can't follow
 pub cant_follow : (kinds : List Terminal) (at i : ℕ) (h : Stopped kinds at i) → Refuses h.state (drop i kinds) → CantFollow kinds i
 cant_follow kinds at i h refused =
     let terminal = get_or kinds i End in
@@ -81,6 +88,7 @@ cant_follow kinds at i h refused =
       behind = λ go. cant_go_on h.lines h.text h.state terminal h.ran h.undone (refused_step h.state terminal (drop i kinds) (drop (suc i) kinds) e refused) (subst CanGoOn (behind_stop kinds at i h terminal e) go);
     }
 
+-- a refused terminal of the first 2,048
 pub is_refused : (kinds : List Terminal) (at i : ℕ) (h : Stopped kinds at i) → i ≤ at + most_tokens → i ≢ at + most_tokens → Refuses h.state (drop i kinds) → ¬ IsProbeLine kinds at i → IsRefused kinds i
 is_refused kinds at i h few not_deep refused no_line =
     record {
@@ -96,10 +104,12 @@ is_refused kinds at i h few not_deep refused no_line =
 
 -- ---- probe lines
 
-probe_runs : run start (Probe ∷ []) ≡ Some (WantEquals Probing)
+-- behind the word `probe` a `=` is wanted
+pub probe_runs : run start (Probe ∷ []) ≡ Some (WantEquals Probing)
 unfolding run step
 probe_runs = refl
 
+-- so no `=` is refused there
 no_equals_behind : (state : State) (rest : List Terminal) → state ≡ WantEquals Probing → Refuses state rest → ¬ Begins rest (Mark Equals)
 unfolding step
 no_equals_behind state [] e refused b = b
@@ -107,6 +117,7 @@ no_equals_behind state (first ∷ more) e refused b =
     let none : step (WantEquals Probing) (Mark Equals) ≡ None = subst (λ t. step (WantEquals Probing) t ≡ None) b (subst (λ s. step s first ≡ None) e refused) in
     cc
 
+-- a text of one terminal, which is `probe`
 one_probe : (text front back : List Terminal) → length text ≡ 1 → front ≡ text ++ back → Begins front Probe → text ≡ Probe ∷ []
 one_probe [] front back one e b = absurd (omega arith)
 one_probe (t ∷ []) front back one e b = ap (λ u. u ∷ []) (first e b)
@@ -115,9 +126,10 @@ one_probe (t ∷ []) front back one e b = ap (λ u. u ∷ []) (first e b)
     first f b' = rw f at b'
 one_probe (t ∷ u ∷ more) front back one e b = absurd (omega arith)
 
-pub begins_probe_line : (kinds : List Terminal) (at i : ℕ) (h : Stopped kinds at i) → at ≡ length (lines_spelled h.lines) → drop at kinds ≡ h.text ++ drop i kinds → Refuses h.state (drop i kinds) → IsProbeLine kinds at i → BeginsProbeLine kinds at
+-- what is refused at once behind `probe` makes a probe line
+pub begins_probe_line : (kinds : List Terminal) (at i : ℕ) (h : Stopped kinds at i) → drop at kinds ≡ h.text ++ drop i kinds → Refuses h.state (drop i kinds) → IsProbeLine kinds at i → BeginsProbeLine kinds at
 unfolding run
-begins_probe_line kinds at i h from spelled refused line =
+begins_probe_line kinds at i h spelled refused line =
     let one : h.text ≡ Probe ∷ [] = one_probe h.text (drop at kinds) (drop i kinds) (omega (arith, h.index, line.0)) spelled (begins_there kinds at Probe line.1) in
     let state : h.state ≡ WantEquals Probing = same_Some h.state (WantEquals Probing) (sym h.ran ∙ ap (run start) one ∙ probe_runs) in
     record {
@@ -143,6 +155,7 @@ begins_probe_line kinds at i h from spelled refused line =
 
 -- ---- faults
 
+-- the stop of an item behind lines
 stopped : (input : List ℕ) (tokens : List Token) (at : ℕ) (lines : List Line) (fault : FileFault) → AreShort lines → terminals input tokens ≡ lines_spelled lines ++ drop at (terminals input tokens) → at ≡ length (lines_spelled lines) → (h : IsItemFault input tokens at fault) → Stopped (terminals input tokens) at h.i
 stopped input tokens at lines fault short whole from h =
     record {
@@ -181,7 +194,7 @@ file_fails input tokens at lines (faults.Wildcard place) short whole from h =
 file_fails input tokens at lines (faults.Unsupported place) short whole from h =
     let kinds = terminals input tokens in
     let s = stopped input tokens at lines (faults.Unsupported place) short whole from h in
-    record { i = at; is_fault = begins_probe_line kinds at h.i s from h.spelled.whole (h.refused (one_not_deep at h.i h.cause.0.0)) h.cause.0; token = h.cause.1.0; is_token = h.cause.1.1; place = h.cause.1.2 }
+    record { i = at; is_fault = begins_probe_line kinds at h.i s h.spelled.whole (h.refused (one_not_deep at h.i h.cause.0.0)) h.cause.0; token = h.cause.1.0; is_token = h.cause.1.1; place = h.cause.1.2 }
   where
     one_not_deep : (at i : ℕ) → i ≡ at + 1 → i ≢ at + most_tokens
     one_not_deep at i one deep = omega arith

@@ -25,30 +25,34 @@ use Rattle.pepa_reader.proofs.FaultReading.{file_fails}
 
 -- ---- one more line
 
+-- what lines spell with one more
 lines_more : (lines : List Line) (line : Line) → lines_spelled (lines ++ line ∷ []) ≡ lines_spelled lines ++ line_spelled line
 lines_more lines line = flat_map-append line_spelled lines (line ∷ []) ∙ ap (λ l. lines_spelled lines ++ l) (append-nil (line_spelled line))
 
+-- they stay short
 short_more : (lines : List Line) (line : Line) → AreShort lines → length (line_spelled line) ≤ most_tokens → AreShort (lines ++ line ∷ [])
 short_more [] line short one = (one, tt)
 short_more (first ∷ more) line short one = (short.0, short_more more line short.1 one)
 
 -- behind a line the next begins
-next_line : (at len : ℕ) (line : Line) (lines : List Line) → at + length (line_spelled line) + length (lines_spelled lines) ≡ at + length (lines_spelled (line ∷ lines))
-next_line at len line lines = omega (arith, length-append (line_spelled line) (lines_spelled lines))
+next_line : (at : ℕ) (line : Line) (lines : List Line) → at + length (line_spelled line) + length (lines_spelled lines) ≡ at + length (lines_spelled (line ∷ lines))
+next_line at line lines = omega (arith, length-append (line_spelled line) (lines_spelled lines))
 
+-- their rate lines
 rates_more : (at : ℕ) (lines : List Line) (line : Line) → rate_lines_from at (lines ++ line ∷ []) ≡ rate_lines_from at lines ++ rate_lines_from (at + length (lines_spelled lines)) (line ∷ [])
 rates_more at [] line = ap (λ n. rate_lines_from n (line ∷ [])) (omega arith)
 rates_more at (RateNamed name rate ∷ lines) line =
-    ap (λ l. record { line_at = at; rate = rate_tree (at + 2) rate } ∷ l) (rates_more (at + length (line_spelled (RateNamed name rate))) lines line ∙ ap (λ n. rate_lines_from (at + length (line_spelled (RateNamed name rate))) lines ++ rate_lines_from n (line ∷ [])) (next_line at 0 (RateNamed name rate) lines))
+    ap (λ l. record { line_at = at; rate = rate_tree (at + 2) rate } ∷ l) (rates_more (at + length (line_spelled (RateNamed name rate))) lines line ∙ ap (λ n. rate_lines_from (at + length (line_spelled (RateNamed name rate))) lines ++ rate_lines_from n (line ∷ [])) (next_line at (RateNamed name rate) lines))
 rates_more at (ProcessNamed process ∷ lines) line =
-    rates_more (at + length (line_spelled (ProcessNamed process))) lines line ∙ ap (λ n. rate_lines_from (at + length (line_spelled (ProcessNamed process))) lines ++ rate_lines_from n (line ∷ [])) (next_line at 0 (ProcessNamed process) lines)
+    rates_more (at + length (line_spelled (ProcessNamed process))) lines line ∙ ap (λ n. rate_lines_from (at + length (line_spelled (ProcessNamed process))) lines ++ rate_lines_from n (line ∷ [])) (next_line at (ProcessNamed process) lines)
 
+-- their process lines
 processes_more : (at : ℕ) (lines : List Line) (line : Line) → process_lines_from at (lines ++ line ∷ []) ≡ process_lines_from at lines ++ process_lines_from (at + length (lines_spelled lines)) (line ∷ [])
 processes_more at [] line = ap (λ n. process_lines_from n (line ∷ [])) (omega arith)
 processes_more at (RateNamed name rate ∷ lines) line =
-    processes_more (at + length (line_spelled (RateNamed name rate))) lines line ∙ ap (λ n. process_lines_from (at + length (line_spelled (RateNamed name rate))) lines ++ process_lines_from n (line ∷ [])) (next_line at 0 (RateNamed name rate) lines)
+    processes_more (at + length (line_spelled (RateNamed name rate))) lines line ∙ ap (λ n. process_lines_from (at + length (line_spelled (RateNamed name rate))) lines ++ process_lines_from n (line ∷ [])) (next_line at (RateNamed name rate) lines)
 processes_more at (ProcessNamed process ∷ lines) line =
-    ap (λ l. record { line_at = at; body = process_tree (at + 2) process } ∷ l) (processes_more (at + length (line_spelled (ProcessNamed process))) lines line ∙ ap (λ n. process_lines_from (at + length (line_spelled (ProcessNamed process))) lines ++ process_lines_from n (line ∷ [])) (next_line at 0 (ProcessNamed process) lines))
+    ap (λ l. record { line_at = at; body = process_tree (at + 2) process } ∷ l) (processes_more (at + length (line_spelled (ProcessNamed process))) lines line ∙ ap (λ n. process_lines_from (at + length (line_spelled (ProcessNamed process))) lines ++ process_lines_from n (line ∷ [])) (next_line at (ProcessNamed process) lines))
 
 -- ---- the end
 
@@ -62,6 +66,7 @@ ending_front : (ending : Ending) → (front : List Terminal) × (ending_spelled 
 ending_front Open = ([], refl)
 ending_front Closed = (Mark Semicolon ∷ [], refl)
 
+-- two lists that are one end alike
 last_same : (a b : List Terminal) (x y : Terminal) → a ++ x ∷ [] ≡ b ++ y ∷ [] → x ≡ y
 last_same [] [] x y e = cc
 last_same [] (u ∷ []) x y e = cc
@@ -80,6 +85,7 @@ only_end (t ∷ front) (u ∷ a) behind others e = only_end front a behind other
 
 -- ---- what has been read
 
+-- the lines before an index, and their trees
 pub record ReadSoFar (kinds : List Terminal) (at : ℕ) (rates : List RateLine) (processes : List ProcessLine) : Type 0 where
   pub lines : List Line
   pub short : AreShort lines
@@ -88,6 +94,7 @@ pub record ReadSoFar (kinds : List Terminal) (at : ℕ) (rates : List RateLine) 
   pub rates_are : map rate_line_of rates ≡ rate_lines_from 0 lines
   pub processes_are : map process_line_of processes ≡ process_lines_from 0 lines
 
+-- none
 pub nothing_read : (kinds : List Terminal) → ReadSoFar kinds 0 [] []
 nothing_read kinds = record { lines = []; short = tt; whole = refl; from = refl; rates_are = refl; processes_are = refl }
 
@@ -96,6 +103,7 @@ more_whole : (kinds : List Terminal) (at next : ℕ) (lines : List Line) (line :
 more_whole kinds at next lines line whole spelled =
     whole ∙ ap (λ l. lines_spelled lines ++ l) spelled.whole ∙ sym (append_assoc (lines_spelled lines) (line_spelled line) (drop next kinds)) ∙ ap (λ l. l ++ drop next kinds) (sym (lines_more lines line))
 
+-- the index behind it
 more_from : (at next : ℕ) (kinds : List Terminal) (lines : List Line) (line : Line) → at ≡ length (lines_spelled lines) → IsSpelled kinds at next (line_spelled line) → next ≡ length (lines_spelled (lines ++ line ∷ []))
 more_from at next kinds lines line from spelled = omega (arith, from, spelled.index, ap length (lines_more lines line), length-append (lines_spelled lines) (line_spelled line))
 
@@ -117,6 +125,7 @@ pub record Going (input : List ℕ) (tokens : List Token) (at : ℕ) (rates : Li
   pub ended : IsEnded (terminals input tokens)
   pub within : at < length tokens
 
+-- nodes by their parts
 rate_node : ℕ → RateNode → RateLineNode
 rate_node n tree = record { line_at = n; rate = tree }
 
@@ -173,6 +182,7 @@ system_ends kinds at next lines process ending ended whole spelled =
     only_end ended.0 (lines_spelled lines ++ (process_spelled process ++ end.0)) rest ended.2
     (sym ended.1 ∙ whole ∙ ap (λ l. lines_spelled lines ++ l) (spelled.whole ∙ ap (λ l. (process_spelled process ++ l) ++ rest) end.1) ∙ simp append_assoc)
 
+-- the node of a file by its parts
 file_node : List RateLineNode → List ProcessLineNode → ProcessNode → FileNode
 file_node rates processes system = record { rates = rates; processes = processes; system = system }
 
@@ -194,22 +204,27 @@ is_file kinds at next file _ h ended spelled is few = absurd is
 
 -- ---- the steps of the loop
 
+-- at the start
 pub starts : (input : List ℕ) (tokens : List Token) → IsEnded (terminals input tokens) → 0 < length tokens → Going input tokens 0 [] []
 starts input tokens ended some = record { so_far = nothing_read (terminals input tokens); ended = ended; within = some }
 
+-- behind a rate line
 pub rate_goes_on : (input : List ℕ) (tokens : List Token) (at next : ℕ) (rates : List RateLine) (processes : List ProcessLine) (line : RateLine) → Going input tokens at rates processes → ReadsItemAt input tokens at (Ok (record { item = Rate line; next = next })) → Going input tokens next (rates ++ line ∷ []) processes
 rate_goes_on input tokens at next rates processes line h read =
     let more = rate_more (terminals input tokens) at next rates processes line read.0.item h.so_far h.ended read.0.spelled read.0.tree read.1 in
     record { so_far = more.0; ended = h.ended; within = omega (arith, more.1, length-map tokens (terminal_of input)) }
 
+-- behind a process line
 pub process_goes_on : (input : List ℕ) (tokens : List Token) (at next : ℕ) (rates : List RateLine) (processes : List ProcessLine) (line : ProcessLine) → Going input tokens at rates processes → ReadsItemAt input tokens at (Ok (record { item = Process line; next = next })) → Going input tokens next rates (processes ++ line ∷ [])
 process_goes_on input tokens at next rates processes line h read =
     let more = process_more (terminals input tokens) at next rates processes line read.0.item h.so_far h.ended read.0.spelled read.0.tree read.1 in
     record { so_far = more.0; ended = h.ended; within = omega (arith, more.1, length-map tokens (terminal_of input)) }
 
+-- at the end
 pub whole_file : (input : List ℕ) (tokens : List Token) (at next : ℕ) (rates : List RateLine) (processes : List ProcessLine) (system : ProcessTree) → Going input tokens at rates processes → ReadsItemAt input tokens at (Ok (record { item = System system; next = next })) → IsFileTree (terminals input tokens) (record { rates = rates; processes = processes; system = system })
 whole_file input tokens at next rates processes system h read =
     is_file (terminals input tokens) at next (record { rates = rates; processes = processes; system = system }) read.0.item h.so_far h.ended read.0.spelled read.0.tree read.1
 
+-- at a fault
 pub file_stops : (input : List ℕ) (tokens : List Token) (at : ℕ) (rates : List RateLine) (processes : List ProcessLine) (fault : FileFault) → Going input tokens at rates processes → ReadsItemAt input tokens at (Err fault) → ReadsFile input tokens (Err fault)
 file_stops input tokens at rates processes fault h read = file_fails input tokens at h.so_far.lines fault h.so_far.short h.so_far.whole h.so_far.from read

@@ -28,6 +28,7 @@ pub ends_in_front : (kinds : List Terminal) (n at next : ℕ) (text : List Termi
 ends_in_front kinds n at next text within short h =
     omega (arith, h.index, ap length h.whole, length-append text (drop next (take n kinds)), length-drop at (take n kinds), length-drop next (take n kinds), length-take-le n kinds short)
 
+-- what stands in the front stands in the whole
 pub spelled_in_front : (kinds : List Terminal) (n at next : ℕ) (text : List Terminal) → at ≤ n → next ≤ n → IsSpelled (take n kinds) at next text → IsSpelled kinds at next text
 spelled_in_front kinds n at next text within behind h =
     record {
@@ -35,6 +36,7 @@ spelled_in_front kinds n at next text within behind h =
       index = h.index;
     }
 
+-- only the first terminal counts
 refuses_longer : (state : State) (front back : List Terminal) → 0 < length front → Refuses state front → Refuses state (front ++ back)
 refuses_longer state [] back some r = absurd (omega arith)
 refuses_longer state (first ∷ more) back some r = r
@@ -45,6 +47,7 @@ refuses_in_front kinds n i state within short r =
     let some : 0 < length (drop i (take n kinds)) = omega (arith, length-drop i (take n kinds), length-take-le n kinds short) in
     rw (drop_front kinds i n (omega arith)) (refuses_longer state (drop i (take n kinds)) (drop n kinds) some r)
 
+-- what is left of the left list
 drop_in_left : (a b : List Terminal) (at : ℕ) → at ≤ length a → drop at (a ++ b) ≡ drop at a ++ b
 drop_in_left a b zero h = refl
 drop_in_left [] b (suc at) h = absurd (omega arith)
@@ -62,12 +65,15 @@ stops_inside kinds at i text state ended within h ran undone = omega (arith, λ 
 
 -- ---- what is read of the first tokens
 
+-- the terminals of the first tokens
 front_kinds : (input : List ℕ) (tokens few : List Token) (n : ℕ) → few ≡ take n tokens → terminals input few ≡ take n (terminals input tokens)
 front_kinds input tokens few n e = ap (terminals input) e ∙ sym (take-map (terminal_of input) n tokens)
 
+-- as many terminals as tokens
 kinds_len : (input : List ℕ) (tokens : List Token) → length (terminals input tokens) ≡ length tokens
 kinds_len input tokens = length-map tokens (terminal_of input)
 
+-- an item of the first tokens
 pub item_in_front : (input : List ℕ) (tokens few : List Token) (at n : ℕ) (read : ItemRead) → few ≡ take n tokens → at ≤ n → n ≤ length tokens → n ≤ at + most_tokens → IsItemRead (terminals input few) at read → IsItemRead (terminals input tokens) at read × (read.next ≤ at + most_tokens)
 item_in_front input tokens few at n read front within short room h =
     let kinds = terminals input tokens in
@@ -75,6 +81,7 @@ item_in_front input tokens few at n read front within short room h =
     let behind : read.next ≤ n = ends_in_front kinds n at read.next (item_spelled h.item) within (rw (kinds_len input tokens) short) spelled in
     (record { item = h.item; spelled = spelled_in_front kinds n at read.next (item_spelled h.item) within behind spelled; tree = h.tree }, omega arith)
 
+-- where the machine stops is before the end
 pub stop_in_front : (input : List ℕ) (tokens few : List Token) (at n i : ℕ) → few ≡ take n tokens → at ≤ n → n ≤ length tokens → at < length tokens → IsEnded (terminals input tokens) → Stops (terminals input few) at i start → (i ≤ n) × (i < length tokens)
 stop_in_front input tokens few at n i front within short inside ended h =
     let kinds = terminals input tokens in
@@ -84,6 +91,7 @@ stop_in_front input tokens few at n i front within short inside ended h =
     let before : i < length kinds = stops_inside kinds at i h.text h.state ended (omega arith) (spelled_in_front kinds n at i h.text within behind spelled) h.ran h.undone in
     (behind, omega arith)
 
+-- a fault of the first tokens
 pub fault_in_front : (input : List ℕ) (tokens few : List Token) (at n i : ℕ) (fault : FileFault) → few ≡ take n tokens → n ≡ at + min (length tokens - at) most_tokens → at < length tokens → IsEnded (terminals input tokens) → Stops (terminals input few) at i start → IsCause input tokens at i fault → IsItemFault input tokens at fault
 fault_in_front input tokens few at n i fault front room inside ended h cause =
     let kinds = terminals input tokens in

@@ -15,3 +15,4 @@ pub mod ProcessStates
 pub mod WordReading
 pub mod ProcessReading
 pub mod SystemReading
+pub mod FileLaws

@@ -21,32 +21,38 @@ use Rattle.pepa_reader.proofs.ProcessStates.{refuses_behind_process, undone_behi
 
 -- ---- rate lines
 
+-- a small name begins a rate line
 name_runs : (name : SmallName) → run start (small_spelled name ∷ []) ≡ Some (WantEquals name)
 unfolding run step
 name_runs Plain = refl
 name_runs Probing = refl
 
+-- behind the `=` a rate is wanted
 equals_runs : (name : SmallName) → run (WantEquals name) (Mark Equals ∷ []) ≡ Some (WantFactor None None (Whole (OfLine name)))
 unfolding run step
 equals_runs name = refl
 
+-- behind the name only `=` can follow
 refuses_behind_name : (name : SmallName) (rest : List Terminal) → ¬ Begins rest (Mark Equals) → Refuses (WantEquals name) rest
 unfolding step
 refuses_behind_name name [] other = tt
 refuses_behind_name name (Mark Equals ∷ more) other = absurd (other refl)
 refuses_behind_name name (_ ∷ more) other = refl
 
+-- no `=` behind the name
 pub no_equals : (kinds : List Terminal) (at equals : ℕ) (name : SmallName) (fault : PartFault) → IsAt kinds at equals (small_spelled name) → Expects kinds equals (Mark Equals) (Err fault) → ReadsItem kinds at (Err fault)
 no_equals kinds at equals name (Refused i) named e =
     rw e.0 (stops_behind start (WantEquals name) named.spelled (name_runs name) (stops_here tt (refuses_behind_name name (drop equals kinds) e.1)))
 no_equals kinds at equals name Memory named e = tt
 
+-- no rate behind the `=`
 pub line_rate_fails : (kinds : List Terminal) (at equals from : ℕ) (name : SmallName) (fault : PartFault) → IsAt kinds at equals (small_spelled name) → IsAt kinds equals from (Mark Equals) → ReadsRate kinds from (Err fault) → ReadsItem kinds at (Err fault)
 line_rate_fails kinds at equals from name (Refused i) named is_equals rate =
     stops_behind start (WantEquals name) named.spelled (name_runs name)
     (stops_behind (WantEquals name) (WantFactor None None (Whole (OfLine name))) is_equals.spelled (equals_runs name) (rate (OfLine name)))
 line_rate_fails kinds at equals from name Memory named is_equals rate = tt
 
+-- no `;` behind the rate
 pub rate_line_stays : (kinds : List Terminal) (at equals from : ℕ) (name : SmallName) (read : RateRead) (fault : PartFault) → IsAt kinds at equals (small_spelled name) → IsAt kinds equals from (Mark Equals) → IsRate kinds from read → Expects kinds read.next (Mark Semicolon) (Err fault) → ReadsItem kinds at (Err fault)
 rate_line_stays kinds at equals from name read (Refused i) named is_equals rate e =
     let place = OfLine name in
@@ -56,6 +62,7 @@ rate_line_stays kinds at equals from name read (Refused i) named is_equals rate 
     (stops_here (undone_behind_rate rate.rate place) (refuses_behind_rate rate.rate place (drop read.next kinds) rate.ends e.1)))))
 rate_line_stays kinds at equals from name read Memory named is_equals rate e = tt
 
+-- a whole rate line
 pub is_rate_line : (kinds : List Terminal) (at equals from next : ℕ) (name : SmallName) (read : RateRead) → IsAt kinds at equals (small_spelled name) → IsAt kinds equals from (Mark Equals) → IsRate kinds from read → IsAt kinds read.next next (Mark Semicolon) → IsItemRead kinds at (record { item = Rate (record { at = at; rate = read.tree }); next = next })
 is_rate_line kinds at equals from next name read named is_equals rate closing =
     let front : from ≡ at + 2 = omega (arith, named.spelled.index, is_equals.spelled.index) in
@@ -67,14 +74,17 @@ is_rate_line kinds at equals from next name read named is_equals rate closing =
 
 -- ---- process lines
 
+-- behind a constant and a `=` a process is wanted
 head_runs : run start (Capital ∷ Mark Equals ∷ []) ≡ Some (Want [] None None InLine)
 unfolding run step
 head_runs = refl
 
+-- no process behind the `=`
 pub line_process_fails : (kinds : List Terminal) (at from : ℕ) (fault : PartFault) → IsLineHead kinds at from → ReadsProcess kinds from (Err fault) → ReadsItem kinds at (Err fault)
 line_process_fails kinds at from (Refused i) head process = stops_behind start (Want [] None None InLine) head head_runs (process InLine tt)
 line_process_fails kinds at from Memory head process = tt
 
+-- no `;` behind the process
 pub process_line_stays : (kinds : List Terminal) (at from : ℕ) (read : ProcessRead) (fault : PartFault) → IsLineHead kinds at from → IsProcess kinds from read → EndsProcess (drop read.next kinds) → Expects kinds read.next (Mark Semicolon) (Err fault) → ReadsItem kinds at (Err fault)
 process_line_stays kinds at from read (Refused i) head process ends e =
     rw e.0 (stops_behind start (Want [] None None InLine) head head_runs
@@ -82,6 +92,7 @@ process_line_stays kinds at from read (Refused i) head process ends e =
     (stops_here (undone_behind_process process.process InLine) (refuses_behind_process process.process InLine (drop read.next kinds) ends e.1))))
 process_line_stays kinds at from read Memory head process ends e = tt
 
+-- a whole process line
 pub is_process_line : (kinds : List Terminal) (at from next : ℕ) (read : ProcessRead) → IsLineHead kinds at from → IsProcess kinds from read → IsAt kinds read.next next (Mark Semicolon) → IsItemRead kinds at (record { item = items.Process (record { at = at; body = read.tree }); next = next })
 is_process_line kinds at from next read head process closing =
     let front : from ≡ at + 2 = omega (arith, head.index) in

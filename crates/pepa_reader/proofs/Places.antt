@@ -6,11 +6,13 @@ use Rattle.pepa_reader.specs.declared.terminal.Terminal.{Terminal}
 use Rattle.pepa_reader.specs.FileAnswers.{StandsAt}
 use Rattle.pepa_reader.specs.Reading.{Begins}
 
+-- what stands at the index begins what is left there
 pub begins_there : (kinds : List Terminal) (at : ℕ) (terminal : Terminal) → StandsAt kinds at terminal → Begins (drop at kinds) terminal
 begins_there [] at terminal s = cc
 begins_there (first ∷ more) zero terminal s = same_Some first terminal s
 begins_there (first ∷ more) (suc at) terminal s = begins_there more at terminal s
 
+-- and the other way
 pub stands_there : (kinds : List Terminal) (at : ℕ) (terminal : Terminal) → Begins (drop at kinds) terminal → StandsAt kinds at terminal
 stands_there [] zero terminal b = absurd b
 stands_there [] (suc at) terminal b = absurd b

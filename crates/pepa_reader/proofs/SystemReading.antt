@@ -15,10 +15,12 @@ use Rattle.pepa_reader.proofs.Spelled.{spelled_append, stops_here, stops_behind}
 use Rattle.pepa_reader.proofs.MachineRuns.{process_runs, process_closes}
 use Rattle.pepa_reader.proofs.ProcessStates.{NoName, refuses_behind_process, undone_behind_process}
 
+-- no process
 pub system_fails : (kinds : List Terminal) (at : ℕ) (fault : PartFault) → NoSmall (drop at kinds) → ReadsProcess kinds at (Err fault) → ReadsItem kinds at (Err fault)
 system_fails kinds at (Refused i) small process = process InSystem small
 system_fails kinds at Memory small process = tt
 
+-- a constant without a `=`
 no_head : (front rest : List Terminal) → NoLineHead front → front ≡ Capital ∷ rest → ¬ Begins rest (Mark Equals)
 no_head front [] none e b = b
 no_head front (first ∷ more) none e b = rw (e, b) at none
@@ -28,16 +30,19 @@ no_name : (kinds : List Terminal) (at next : ℕ) (process : Process) → NoLine
 no_name kinds at next (OneChoice (OneHidden (OnePrefix Constant))) none spelled = no_head (drop at kinds) (drop next kinds) none spelled.whole
 no_name kinds at next _ none spelled = tt
 
+-- behind the `;` only the end can follow
 refuses_other : (process : Process) (rest : List Terminal) → ¬ Begins rest End → Refuses (WantEnd process) rest
 unfolding step
 refuses_other process [] other = tt
 refuses_other process (End ∷ more) other = absurd (other refl)
 refuses_other process (_ ∷ more) other = refl
 
+-- behind a system's `;` the end is wanted
 semicolon_runs : (process : Process) → run (behind_process process InSystem) (Mark Semicolon ∷ []) ≡ Some (WantEnd process)
 unfolding run
 semicolon_runs process = rw (process_closes process InSystem (Mark Semicolon) (WantEnd process) refl) refl
 
+-- no end behind the process
 pub system_stays : (kinds : List Terminal) (at : ℕ) (read : ProcessRead) (fault : PartFault) → NoLineHead (drop at kinds) → IsProcess kinds at read → EndsProcess (drop read.next kinds) → ReadsEnding kinds read.next (Err fault) → ReadsItem kinds at (Err fault)
 system_stays kinds at read (Refused i) none process ends e =
     stops_behind start (behind_process process.process InSystem) process.spelled (process_runs process.process InSystem) (elim e [
@@ -46,6 +51,7 @@ system_stays kinds at read (Refused i) none process ends e =
     ])
 system_stays kinds at read Memory none process ends e = tt
 
+-- a whole system
 pub is_system : (kinds : List Terminal) (at next : ℕ) (read : ProcessRead) → IsProcess kinds at read → ReadsEnding kinds read.next (Ok next) → IsItemRead kinds at (record { item = items.System read.tree; next = next })
 is_system kinds at next read process ending =
     record { item = System process.process ending.0; spelled = spelled_append process.spelled ending.1; tree = process.tree }

@@ -20,14 +20,17 @@ no_small_end false true c e = cc
 no_small_end false false true e = cc
 no_small_end false false false e = cc
 
+-- and a name that begins with a capital
 no_capital_end : (a : Bool) → (if a then Top else Capital) ≢ End
 no_capital_end true e = cc
 no_capital_end false e = cc
 
+-- a name is no end
 no_word_end : (b : Bool) (text : List ℕ) → terminal_from (if b then kinds.Capital else kinds.Small) text ≢ End
 no_word_end true text e = no_capital_end (pointwise nat_eq text (codes "T")) e
 no_word_end false text e = no_small_end (pointwise nat_eq text (codes "infty")) (pointwise nat_eq text (codes "tau")) (pointwise nat_eq text (codes "probe")) e
 
+-- none of the terminals is the end
 abbrev NoEnd : List Terminal → Type 0
 NoEnd kinds = AllByRecursion (λ terminal. terminal ≢ End) kinds
 
@@ -44,6 +47,7 @@ no_end_along input at (Whole digits ∷ more) = ((λ e. cc), no_end_along input 
 no_end_along input at (Pointed digits behind ∷ more) = ((λ e. cc), no_end_along input (at + length (spelled (Pointed digits behind))) more)
 no_end_along input at (Mark sign ∷ more) = ((λ e. cc), no_end_along input (at + length (spelled (Mark sign))) more)
 
+-- only the last token is the end
 pub tokens_ended : (input : List ℕ) (tokens : List Token) → IsTokens input tokens → IsEnded (terminals input tokens)
 tokens_ended input tokens h = (
   map (terminal_of input) (tokens_along input 0 h.0),
@@ -51,5 +55,6 @@ tokens_ended input tokens h = (
   no_end_along input 0 h.0,
 )
 
+-- a text has a token
 pub some_token : (input : List ℕ) (tokens : List Token) → IsTokens input tokens → 0 < length tokens
 some_token input tokens h = omega (arith, ap length h.2, length-append (tokens_along input 0 h.0) (end_of input))

@@ -24,6 +24,7 @@
 mod fault;
 mod file;
 mod items;
+pub mod laws;
 mod processes;
 mod rates;
 mod terminal;
