@@ -1,7 +1,6 @@
 -- What the machine shows of the grammar: an unfinished item can go on, what the machine refuses can't stand there, and terminals
 -- spell one item, or one file, at most.
-use Rattle.std.proofs.Common.{◌≡◌, ℕ, ◌+◌, ◌<◌, List, [], ◌∷◌, ◌++◌, length, take, Option, Some, None, option_and_then, ◌⊎◌, inl, inr, refl, ap, sym, subst, ◌∙◌, append_assoc, append-nil, length-append, arith}
-use Rattle.std.specs.List.{flat_map}
+use Rattle.std.proofs.Common.{◌≡◌, ◌<◌, List, [], ◌∷◌, ◌++◌, length, take, Some, None, option_and_then, ◌⊎◌, inl, inr, refl, ap, sym, subst, ◌∙◌, append_assoc, append-nil, length-append, arith}
 use Rattle.std.proofs.lemmas.Option.{same_Some, option_and_then_some}
 use Rattle.std.proofs.lemmas.List.{append_cancel_left}
 use Rattle.std.proofs.lemmas.Grind.{flat_map-append}
@@ -10,9 +9,9 @@ use Rattle.pepa_reader.specs.declared.terminal.Terminal.{Terminal}
 use Rattle.pepa_reader.specs.declared.terminal.Terminal.TheVariants.{Capital, End}
 use Rattle.pepa_reader.specs.Grammar.{Process, OneChoice, OneHidden, OnePrefix, Constant, Line, Ending, Open, Item, OneLine, System, File, line_spelled, item_spelled, lines_spelled, file_spelled}
 use Rattle.pepa_reader.specs.Machine.{State, Done, step, run, start, IsUndone}
-use Rattle.pepa_reader.specs.FileAnswers.{IsFile, CanGoOn}
-use Rattle.pepa_reader.proofs.MachineRuns.{run-append, run_along, run_step, item_runs}
-use Rattle.pepa_reader.proofs.MachineTexts.{text_of_state, run_reads}
+use Rattle.pepa_reader.specs.FileAnswers.{CanGoOn}
+use Rattle.pepa_reader.proofs.MachineRuns.{run-append, run_along, item_runs}
+use Rattle.pepa_reader.proofs.MachineTexts.{run_reads}
 use Rattle.pepa_reader.proofs.MachineEnds.{ends, end_ends}
 
 -- ---- fronts of one list
