@@ -1,0 +1,16 @@
+pub mod Taus
+pub mod Findings
+pub mod Listed
+pub mod UnknownParts
+pub mod Inserted
+pub mod Repeated
+pub mod FileLines
+pub mod NamesSteps
+pub mod Within
+pub mod NumberSizes
+pub mod ValueLemmas
+pub mod NamedRates
+pub mod OutcomeLists
+pub mod FirstBads
+pub mod GoodRates
+pub mod RateChecks

@@ -1,0 +1,10 @@
+pub mod Parts
+pub mod Faults
+pub mod Outcomes
+pub mod NamesAnswers
+pub mod Finding
+pub mod NamesChecks
+pub mod Values
+pub mod FirstBad
+pub mod CheckedRates
+pub mod FirstChecks
