@@ -1,10 +1,10 @@
 -- The lesser of two rates: one of the two, in either order the same value, and however it is bracketed.
-use Rattle.std.proofs.Common.{◌≡◌, ℕ, ◌*◌, ◌<◌, ◌≤◌, Bool, true, false, nat_lt, cond, ◌⊎◌, inl, inr, arith, refl, sym, ◌∙◌, ap}
+use Rattle.std.proofs.Common.{◌≡◌, ℕ, ◌*◌, ◌<◌, ◌≤◌, cond, ◌⊎◌, inl, inr, arith, refl, sym, ◌∙◌, ap}
 use Rattle.std.proofs.lemmas.Bool.{cases_lt, lt-ltb, le-ltb}
 use Rattle.std.proofs.Math.Nat.{mul-lt-mul_of_pos_right, mul-le-mul_right, lt_of_mul-lt-mul_right, le_of_mul-le-mul_right}
 use Rattle.pepa_rates.specs.Fraction.{Fraction, IsPositive, IsProper, SameNumber}
 use Rattle.pepa_rates.specs.Sum.{fraction_of}
-use Rattle.pepa_rates.specs.Share.{less, lesser_of, least_of, SameKind, SameRate}
+use Rattle.pepa_rates.specs.Share.{lesser_of, least_of, SameRate}
 use Rattle.pepa_rates.specs.declared.rate.Rate.{Rate}
 use Rattle.pepa_rates.specs.declared.rate.Rate.TheVariants.{Active, Passive}
 use Rattle.pepa_rates.proofs.LowestTerms.{lowest-same}
@@ -41,16 +41,16 @@ upto_along a b c d m e e_some h k =
 pub lesser-assoc : (p q r : Fraction) → IsPositive p → IsPositive q → IsPositive r → lesser_of (lesser_of p q) r ≡ lesser_of p (lesser_of q r)
 lesser-assoc p q r h k l =
     elim (cases p q) [
-      inl q_below ↦ elim (cases q r) [
-        inl r_below ↦ ap (λ x. lesser_of x r) (lesser_second p q q_below) ∙ lesser_second q r r_below
-          ∙ sym (ap (lesser_of p) (lesser_second q r r_below) ∙ lesser_second p r (below_along r.num r.den p.num p.den q.num q.den l.1 h.1 r_below (omega arith)))
-      | inr q_upto ↦ ap (λ x. lesser_of x r) (lesser_second p q q_below) ∙ lesser_first q r q_upto
-          ∙ sym (ap (lesser_of p) (lesser_first q r q_upto) ∙ lesser_second p q q_below)
+      | inl q_below ↦ elim (cases q r) [
+        | inl r_below ↦ ap (λ x. lesser_of x r) (lesser_second p q q_below) ∙ lesser_second q r r_below
+            ∙ sym (ap (lesser_of p) (lesser_second q r r_below) ∙ lesser_second p r (below_along r.num r.den p.num p.den q.num q.den l.1 h.1 r_below (omega arith)))
+        | inr q_upto ↦ ap (λ x. lesser_of x r) (lesser_second p q q_below) ∙ lesser_first q r q_upto
+            ∙ sym (ap (lesser_of p) (lesser_first q r q_upto) ∙ lesser_second p q q_below)
       ]
-    | inr p_upto ↦ elim (cases q r) [
-        inl r_below ↦ ap (λ x. lesser_of x r) (lesser_first p q p_upto) ∙ sym (ap (lesser_of p) (lesser_second q r r_below))
-      | inr q_upto ↦ ap (λ x. lesser_of x r) (lesser_first p q p_upto) ∙ lesser_first p r (upto_along p.num p.den r.num r.den q.num q.den k.1 p_upto q_upto)
-          ∙ sym (ap (lesser_of p) (lesser_first q r q_upto) ∙ lesser_first p q p_upto)
+      | inr p_upto ↦ elim (cases q r) [
+        | inl r_below ↦ ap (λ x. lesser_of x r) (lesser_first p q p_upto) ∙ sym (ap (lesser_of p) (lesser_second q r r_below))
+        | inr q_upto ↦ ap (λ x. lesser_of x r) (lesser_first p q p_upto) ∙ lesser_first p r (upto_along p.num p.den r.num r.den q.num q.den k.1 p_upto q_upto)
+            ∙ sym (ap (lesser_of p) (lesser_first q r q_upto) ∙ lesser_first p q p_upto)
       ]
     ]
 
@@ -61,10 +61,10 @@ same_number p q x y e f h = rw (e, f) h
 pub lesser-comm : (p q : Fraction) → SameNumber (lesser_of p q) (lesser_of q p)
 lesser-comm p q =
     elim (cases p q) [
-      inl q_below ↦ same_number q q (lesser_of p q) (lesser_of q p) (lesser_second p q q_below) (lesser_first q p (omega arith)) refl
-    | inr p_upto ↦ elim (cases q p) [
-        inl p_below ↦ same_number p p (lesser_of p q) (lesser_of q p) (lesser_first p q p_upto) (lesser_second q p p_below) refl
-      | inr q_upto ↦ same_number p q (lesser_of p q) (lesser_of q p) (lesser_first p q p_upto) (lesser_first q p q_upto) (omega arith)
+      | inl q_below ↦ same_number q q (lesser_of p q) (lesser_of q p) (lesser_second p q q_below) (lesser_first q p (omega arith)) refl
+      | inr p_upto ↦ elim (cases q p) [
+        | inl p_below ↦ same_number p p (lesser_of p q) (lesser_of q p) (lesser_first p q p_upto) (lesser_second q p p_below) refl
+        | inr q_upto ↦ same_number p q (lesser_of p q) (lesser_of q p) (lesser_first p q p_upto) (lesser_first q p q_upto) (omega arith)
       ]
     ]
 

@@ -1,11 +1,11 @@
 -- Least common multiples, of two numbers and of the denominators of a list.
-use Rattle.std.proofs.Common.{◌≡◌, ℕ, zero, suc, ◌+◌, ◌*◌, ◌/◌, ◌<◌, ◌≤◌, List, [], ◌∷◌, length, get_or, take, drop, fold, All, arith, refl, sym, ◌∙◌, ap, subst}
+use Rattle.std.proofs.Common.{◌≡◌, ℕ, zero, suc, ◌+◌, ◌*◌, ◌/◌, ◌<◌, ◌≤◌, List, [], ◌∷◌, length, get_or, take, drop, fold, All, arith, sym, ◌∙◌, ap, subst}
 use Rattle.std.specs.Int.{◌∣◌}
 use Rattle.std.proofs.lemmas.Nat.Gcd.{dvd_refl, dvd-zero, dvd_trans, dvd_antisymm, le_of_dvd}
 use Rattle.std.proofs.lemmas.List.Elements.{All-nil, All-cons, All-head, All-tail, All-take, All-drop, All-weaker}
 use Rattle.std.proofs.lemmas.List.Sums.{fold-append, fold_more}
 use Rattle.std.proofs.lemmas.List.{take-append-drop}
-use Rattle.std.proofs.Math.Nat.{dvd-mul_left, dvd-mul_right, dvd-mul_right_of_dvd, dvd-mul_left_of_dvd, mul_comm, one-dvd, mul-dvd-mul_left, mul-dvd-mul_right, dvd_of_mul-dvd-mul_left, mul-div_cancel', eq_of_mul-eq-mul_left, mul-pos}
+use Rattle.std.proofs.Math.Nat.{dvd-mul_right, dvd-mul_right_of_dvd, dvd-mul_left_of_dvd, mul_comm, one-dvd, mul-dvd-mul_right, dvd_of_mul-dvd-mul_left, mul-div_cancel', eq_of_mul-eq-mul_left, mul-pos}
 use Rattle.pepa_rates.specs.Fraction.{Fraction, gcd}
 use Rattle.pepa_rates.specs.Weights.{lcm, common_den, weight_of, IsLeastCommonDen}
 use Rattle.pepa_rates.proofs.Divisors.{gcd-IsGcd, gcd-pos, gcd-mul_left}

@@ -1,9 +1,9 @@
 -- The rate of an activity performed together: one apparent rate cancels, and neither side comes first.
-use Rattle.std.proofs.Common.{◌≡◌, ℕ, ◌*◌, ◌<◌, ◌⊎◌, inl, inr, arith, refl, sym, ◌∙◌, ap}
+use Rattle.std.proofs.Common.{◌≡◌, ℕ, ◌*◌, ◌<◌, inl, inr, arith, refl, sym, ◌∙◌, ap}
 use Rattle.std.proofs.Math.Nat.{mul-pos}
 use Rattle.pepa_rates.specs.Fraction.{Fraction, reduced, IsPositive, IsProper}
 use Rattle.pepa_rates.specs.Sum.{fraction_of}
-use Rattle.pepa_rates.specs.Share.{least_of, SameKind, SameRate, product_of, quotient_of, with_fraction, share_of, IsInOrder}
+use Rattle.pepa_rates.specs.Share.{least_of, SameKind, product_of, quotient_of, with_fraction, share_of, IsInOrder}
 use Rattle.pepa_rates.specs.declared.rate.Rate.{Rate}
 use Rattle.pepa_rates.specs.declared.rate.Rate.TheVariants.{Active, Passive}
 use Rattle.pepa_rates.proofs.LowestTerms.{reduced-same, reduced-cross, reduced-positive, proper-reduced}
@@ -103,10 +103,10 @@ share_short r1 ra r2 rb least other h1 ha h2 hb ordered =
     let b : Fraction = fraction_of rb in
     ap (λ x. with_fraction x (fraction_share p a q b (fraction_of x))) (sym ordered.0)
     ∙ ap (with_fraction least) (elim ordered.1 [
-      inl both ↦ ap (λ x. fraction_share p a q b (fraction_of x)) both.0 ∙ share_short_first p a q b h1 ha h2 hb
-        ∙ ap (λ x. short p q (fraction_of x)) (sym both.1)
-    | inr both ↦ ap (λ x. fraction_share p a q b (fraction_of x)) both.0 ∙ share_short_second p a q b h1 ha h2 hb
-        ∙ ap (λ x. short p q (fraction_of x)) (sym both.1)
+      | inl both ↦ ap (λ x. fraction_share p a q b (fraction_of x)) both.0 ∙ share_short_first p a q b h1 ha h2 hb
+          ∙ ap (λ x. short p q (fraction_of x)) (sym both.1)
+      | inr both ↦ ap (λ x. fraction_share p a q b (fraction_of x)) both.0 ∙ share_short_second p a q b h1 ha h2 hb
+          ∙ ap (λ x. short p q (fraction_of x)) (sym both.1)
     ])
 
 -- the same of fractions that were read from the rates of the program
