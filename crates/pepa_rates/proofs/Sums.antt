@@ -6,11 +6,11 @@ use Rattle.pepa_rates.specs.Sum.{sum_of}
 use Rattle.pepa_rates.proofs.Divisors.{gcd-pos, gcd-mul_left}
 use Rattle.pepa_rates.proofs.LowestTerms.{fraction_same, num-whole, den-whole, reduced-positive}
 
-reduced_along : (n m d e : ℕ) → n ≡ m → d ≡ e → reduced n d ≡ reduced m e
+pub reduced_along : (n m d e : ℕ) → n ≡ m → d ≡ e → reduced n d ≡ reduced m e
 reduced_along n m d e h k = ap (λ x. reduced x d) h ∙ ap (reduced m) k
 
 -- a common factor doesn't matter
-reduced-mul_left : (c n d : ℕ) → 0 < c → reduced (c * n) (c * d) ≡ reduced n d
+pub reduced-mul_left : (c n d : ℕ) → 0 < c → reduced (c * n) (c * d) ≡ reduced n d
 unfolding reduced
 reduced-mul_left c n d pos =
     let taken = gcd-mul_left c n d pos in

@@ -1,2 +1,4 @@
 pub mod Fraction
 pub mod Sum
+pub mod Share
+pub mod Weights

@@ -61,7 +61,7 @@ pub struct RateOverflow;
 const PART_LIMIT: u128 = 1 << 42;
 
 // The greatest common divisor, by Euclid's algorithm.
-fn common_divisor(a: u128, b: u128) -> u128
+pub(crate) fn common_divisor(a: u128, b: u128) -> u128
     ensures { result ≡ gcd a b }
 {
     let mut x = a;
