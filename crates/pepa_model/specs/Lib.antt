@@ -4,6 +4,7 @@ pub mod Derivation
 pub mod Opened
 pub mod Apparent
 pub mod Verdict
+pub mod Expanded
 pub mod PepaModel
 pub mod ModelView
 pub mod Terms

@@ -1,8 +1,8 @@
 -- How contracts see a model.
 use Rattle.std.specs.Prelude.{map}
 use Rattle.indexmap.specs.IndexMap.{keys}
-use Rattle.pepa_model.specs.Expression.{expression_of, definition_of}
-use Rattle.pepa_model.specs.PepaModel.{PepaModel, IsModel, shape_of}
+use Rattle.pepa_model.specs.Expression.{expression_of, definition_of, shape_of}
+use Rattle.pepa_model.specs.PepaModel.{PepaModel, IsModel}
 use Rattle.pepa_model.specs.declared.model.Model.TheInside.{Inside}
 
 abbrev pub model_view : Inside → PepaModel

@@ -1,19 +1,12 @@
 -- A model as contracts see it, and what holds of each.
 use Rattle.std.specs.Prelude.{◌≡◌, ℕ, ◌^◌, ◌<◌, ◌≤◌, Some, List, slice_get, length, codes}
 use Rattle.std.specs.List.{AllByRecursion, AllZip}
-use Rattle.pepa_model.specs.Expression.{Expression, Const, Prefixed, Chosen, LeafOf, Definition, expression_of}
+use Rattle.std.specs.List.Sorted.{IsStrictlyIncreasing}
+use Rattle.pepa_model.specs.Expression.{Expression, Const, Prefixed, Chosen, LeafOf, Shape, LeafShape, ConstShape, CoopShape, HideShape, Definition, IsCompound}
 use Rattle.pepa_model.specs.Derivation.{Transition, IsTransitionList}
 use Rattle.pepa_model.specs.Opened.{Opened, Opens, moves, height}
+use Rattle.pepa_model.specs.Expanded.{Expanded, Expands, leaves_in}
 use Rattle.pepa_model.specs.declared.term.Activity.{Activity}
-use Rattle.pepa_model.specs.declared.term.Shape2.{Shape2}
-use Rattle.pepa_model.specs.declared.term.Shape2.TheVariants.{Leaf}
-
--- a system as it is written
-pub data Shape : Type 0 where
-  LeafShape : Expression → Shape
-
-abbrev pub shape_of : Shape2 → Shape
-shape_of (Leaf e) = LeafShape (expression_of e)
 
 -- the parts of a model: the names of its constants and of its action types, whose places are their numbers; what each
 -- constant stands for; its leaves and the activities of each; its sets of action types; and its system
@@ -57,9 +50,25 @@ pub record IsSoundLeaf (m : PepaModel) (number : ℕ) (e : Expression) : Type 0 
   pub known : AllByRecursion (λ a. a.action < length m.actions) activities
   pub named : IsNamed m e
 
--- the system's component is a leaf
-abbrev pub IsLeafSystem : List Expression → Shape → Type 0
-IsLeafSystem leaves (LeafShape e) = (number : ℕ) × (slice_get leaves number ≡ Some e)
+-- what holds of each set: its action types ascend, and they are the model's, without `tau`
+pub record IsActionSet (m : PepaModel) (set : List ℕ) : Type 0 where
+  pub ascends : IsStrictlyIncreasing set
+  pub no_tau : AllByRecursion (λ a. 0 < a) set
+  pub known : AllByRecursion (λ a. a < length m.actions) set
+
+-- what holds of the system and of each compound constant's: its components are leaves, its constants are compound, and
+-- its sets are the model's
+abbrev pub IsShapeOf : PepaModel → Shape → Type 0
+IsShapeOf m (LeafShape e) = (number : ℕ) × (slice_get m.leaves number ≡ Some e)
+IsShapeOf m (ConstShape c) = (shape : Shape) × IsCompound m.bodies c shape
+IsShapeOf m (CoopShape x y set) = IsShapeOf m x × IsShapeOf m y × (set < length m.sets)
+IsShapeOf m (HideShape x set) = IsShapeOf m x × (set < length m.sets)
+
+-- the system expands, into at most 255 leaves
+pub record HasFewLeaves (m : PepaModel) : Type 0 where
+  pub tree : Expanded
+  pub expands : Expands m.bodies m.system tree
+  pub few : leaves_in tree ≤ 255
 
 -- what holds of each model
 pub record IsModel (m : PepaModel) : Type 0 where
@@ -68,4 +77,7 @@ pub record IsModel (m : PepaModel) : Type 0 where
   pub leaves : (number : ℕ) (e : Expression) → slice_get m.leaves number ≡ Some e → IsSoundLeaf m number e
   pub activities : length m.activities ≡ length m.leaves
   pub few_leaves : length m.leaves ≤ 65535
-  pub system : IsLeafSystem m.leaves m.system
+  pub sets : (number : ℕ) (set : List ℕ) → slice_get m.sets number ≡ Some set → IsActionSet m set
+  pub compounds : (c : ℕ) (shape : Shape) → IsCompound m.bodies c shape → IsShapeOf m shape
+  pub system : IsShapeOf m m.system
+  pub expanded : HasFewLeaves m

@@ -1,5 +1,5 @@
 ghost use Rattle.std.specs.Prelude.{◌≡◌, ℕ, ◌<◌, Some, length, slice_get};
-ghost use Rattle.pepa_model.specs.Expression.{Expression, Defines, expression_of};
+ghost use Rattle.pepa_model.specs.Expression.{Expression, Defines, IsSequential, expression_of};
 ghost use Rattle.pepa_model.specs.PepaModel.{IsModel, AreTransitionsOf};
 
 use crate::name::Name;
@@ -29,12 +29,12 @@ pub struct Model {
 
 impl std::marker::Model for Model {
     ghost use Rattle.pepa_model.specs.PepaModel.{PepaModel};
-    ghost use Rattle.pepa_model.specs.ExpressionCode.{expression_code};
+    ghost use Rattle.pepa_model.specs.ExpressionCode.{expression_code, shape_code, definition_code};
     ghost use Rattle.std.specs.Coded.{codes};
 
     ghost Value = { PepaModel };
 
-    ghost coded = { Prim.hlevel (codes, expression_code) };
+    ghost coded = { Prim.hlevel (codes, expression_code, shape_code, definition_code) };
 
     ghost use Rattle.pepa_model.specs.ModelView.{model_view, IsModelInside};
 
@@ -84,9 +84,9 @@ impl Model {
         &leaves.as_slice()[leaf as usize]
     }
 
-    /// The component that a constant stands for.
+    /// The component that a sequential constant stands for.
     pub fn body(&self, constant: u32) -> &Sequential
-        requires { constant < length self.now.bodies }
+        requires { IsSequential self.now.bodies constant }
         ensures { Defines self.now.bodies constant (expression_of result.now) }
     {
         let bodies = &self.bodies;

@@ -1,6 +1,6 @@
 ghost use Rattle.std.specs.Prelude.{◌≡◌, ◌<◌, ◌^◌, IfOk};
-ghost use Rattle.pepa_model.specs.Expression.{Sequentially, expression_of, definition_of};
-ghost use Rattle.pepa_model.specs.Terms.{leaf_count_of};
+ghost use Rattle.pepa_model.specs.Expression.{Expression, Sequentially, expression_of, definition_of};
+ghost use Rattle.pepa_model.specs.Terms.{IsLeaf, term_of, leaf_count_of};
 
 use pepa_rates::Rate;
 use sqlite_items::Items;
@@ -22,6 +22,12 @@ pub enum Sequential {
 pub enum Shape2 {
     /// A sequential component.
     Leaf(Sequential),
+    /// The compound constant of this number, which stands for its system.
+    Constant(u32),
+    /// Two systems that cooperate over the set of this number.
+    Coop(Box<Shape2>, Box<Shape2>, u32),
+    /// A system that hides the set of this number.
+    Hide(Box<Shape2>, u32),
 }
 
 /// The right side of a constant's line.
@@ -29,6 +35,8 @@ pub enum Shape2 {
 pub enum Body {
     /// A sequential component.
     Plain(Sequential),
+    /// A system.
+    Compound(Shape2),
 }
 
 /// A state of a system: its sequential components are leaves, by their numbers.
@@ -36,15 +44,21 @@ pub enum Body {
 pub enum Term {
     /// The leaf of this number.
     Leaf(u32),
+    /// Two terms that cooperate over the set of this number.
+    Coop(Box<Term>, Box<Term>, u32),
+    /// A term that hides the set of this number.
+    Hide(Box<Term>, u32),
 }
 
 impl Body {
-    /// The component on the right side.
+    /// The component on the right side, which isn't a system.
     pub fn component(&self) -> &Sequential
+        requires { (e : Expression) × (definition_of self.now ≡ Sequentially e) }
         ensures { definition_of self.now ≡ Sequentially (expression_of result.now) }
     {
         match self {
             Body::Plain(component) => component,
+            Body::Compound(_) => unreachable!(),
         }
     }
 }
@@ -52,19 +66,30 @@ impl Body {
 impl Term {
     /// The number of a term that is one leaf.
     pub fn leaf(&self) -> u32
+        requires { IsLeaf self.now }
         ensures { self.now ≡ Term.Leaf result }
     {
         match self {
             Term::Leaf(leaf) => *leaf,
+            Term::Coop(..) | Term::Hide(..) => unreachable!(),
         }
     }
 
     /// An equal term.
-    pub fn copy(&self, _alloc: Global) -> Result<Term, AllocError>
-        ensures { IfOk result (λ term. term ≡ self.now) }
+    pub fn copy(&self, alloc: Global) -> Result<Term, AllocError>
+        ensures { IfOk result (λ term. term_of term ≡ term_of self.now) }
     {
         match self {
             Term::Leaf(leaf) => Ok(Term::Leaf(*leaf)),
+            Term::Coop(left, right, set) => {
+                let left = Box::new(alloc, left.copy(alloc)?)?;
+                let right = Box::new(alloc, right.copy(alloc)?)?;
+                Ok(Term::Coop(left, right, *set))
+            }
+            Term::Hide(inner, set) => {
+                let inner = Box::new(alloc, inner.copy(alloc)?)?;
+                Ok(Term::Hide(inner, *set))
+            }
         }
     }
 }
@@ -76,6 +101,8 @@ pub fn leaf_count(term: &Term, leaf: u32) -> u32
 {
     match term {
         Term::Leaf(number) => u32::from(*number == leaf),
+        Term::Coop(left, right, _set) => leaf_count(left, leaf) + leaf_count(right, leaf),
+        Term::Hide(inner, _set) => leaf_count(inner, leaf),
     }
 }
 

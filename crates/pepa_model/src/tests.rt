@@ -1,4 +1,5 @@
 use crate::{Name, Term, leaf_count};
+use std::alloc::{AllocError, Global};
 use std::test::Fail;
 
 #[test]
@@ -15,5 +16,25 @@ fn a_term_has_its_leaf(rt: HostRuntime) -> Result<(), Fail> {
     let term = Term::Leaf(3).copy(rt.alloc())?;
     assert_eq!(rt; term.leaf(), 3);
     assert_eq!(rt; (leaf_count(&term, 3), leaf_count(&term, 2)), (1, 0));
+    Ok(())
+}
+
+// 3 and 5 cooperate over set 1, set 2 is hidden in that, and this cooperates over set 0 with 3.
+fn cooperating(alloc: Global) -> Result<Term, AllocError> {
+    let left = Box::new(alloc, Term::Leaf(3))?;
+    let right = Box::new(alloc, Term::Leaf(5))?;
+    let pair = Box::new(alloc, Term::Coop(left, right, 1))?;
+    let hiding = Box::new(alloc, Term::Hide(pair, 2))?;
+    Ok(Term::Coop(hiding, Box::new(alloc, Term::Leaf(3))?, 0))
+}
+
+#[test]
+fn a_copy_has_the_same_leaves(rt: HostRuntime) -> Result<(), Fail> {
+    let term = cooperating(rt.alloc())?;
+    let copy = term.copy(rt.alloc())?;
+    for (leaf, count) in [(3, 2), (5, 1), (0, 0)] {
+        assert_eq!(rt; leaf_count(&term, leaf), count);
+        assert_eq!(rt; leaf_count(&copy, leaf), count);
+    }
     Ok(())
 }

@@ -5,8 +5,7 @@ use Rattle.pepa_model.specs.Expression.{WordTerm}
 use Rattle.pepa_model.specs.Derivation.{Transition}
 use Rattle.pepa_model.specs.PepaModel.{PepaModel}
 use Rattle.pepa_model.specs.Terms.{StandsFor, StepStandsFor}
-use Rattle.pepa_model.specs.declared.term.Term.{Term}
-use Rattle.pepa_model.specs.declared.term.Term.TheVariants.{Leaf}
+use Rattle.pepa_model.specs.declared.term.Term.{Term, Leaf, Coop', Hide'}
 use Rattle.pepa_model.specs.declared.term.Step.{Step}
 use Rattle.sim_command.specs.declared.answer.Answered.{Answered}
 use Rattle.sim_command.specs.declared.small_text.SmallText.{SmallText}
@@ -30,6 +29,8 @@ reads_model input text (Err Memory) one is h = tt
 -- steps are written as the transitions that they stand for
 same_target : (m : PepaModel) (term : Term) (word : WordTerm) → StandsFor m term word → term_text m term ≡ word_text m word
 same_target m (Leaf number) word (e, at, is) = ap (leaf_text m) at ∙ ap (word_text m) (sym is)
+same_target m (Coop' p x q y set) word h = absurd h
+same_target m (Hide' p x set) word h = absurd h
 
 same_step : (m : PepaModel) (s : Step) (t : Transition) → StepStandsFor m s t → step_text m s ≡ transition_text m t
 same_step m s t h = rw (h.action, h.rate, same_target m s.target t.target h.target) refl

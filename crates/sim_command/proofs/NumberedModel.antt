@@ -1,12 +1,13 @@
 -- The model of a text keeps what each model keeps.
-use Rattle.std.proofs.Common.{◌≡◌, ℕ, zero, suc, ◌+◌, ◌<◌, ◌≤◌, List, [], ◌∷◌, ◌++◌, map, fold, length, slice_get, Some, refl, sym, ap, ◌∙◌, subst, arith, append_assoc, append-nil, length-append}
+use Rattle.std.proofs.Common.{◌≡◌, ℕ, zero, suc, ◌+◌, ◌<◌, ◌≤◌, List, [], ◌∷◌, ◌++◌, map, fold, length, slice_get, Some, refl, sym, ap, ◌∙◌, subst, arith, lit≤, append_assoc, append-nil, length-append}
 use Rattle.std.specs.Option.{option_map}
 use Rattle.std.specs.List.{AllByRecursion, AllZip}
 use Rattle.std.proofs.lemmas.List.{length-map}
 use Rattle.std.proofs.lemmas.List.FromFn.{length-map-range_with_len, get_or-map-range_with_len}
 use Rattle.std.proofs.lemmas.Option.{slice_get-map, slice_get-get_or, slice_get_within, same_Some}
-use Rattle.pepa_model.specs.Expression.{Expression, Const, Chosen, Definition}
+use Rattle.pepa_model.specs.Expression.{Expression, Const, Chosen, Shape, Definition, Compoundly, IsCompound}
 use Rattle.pepa_model.specs.Opened.{Opened, OpenPrefix, OpenChoice, OpenConst, Opens, moves, height}
+use Rattle.pepa_model.specs.Expanded.{LeafTree}
 use Rattle.pepa_model.specs.Derivation.{leaf_transition, Among}
 use Rattle.pepa_model.specs.PepaModel.{StandsForTransition, IsSoundLeaf, IsModel}
 use Rattle.pepa_model.specs.declared.term.Activity.{Activity}
@@ -107,6 +108,16 @@ some_constant : (name : List ℕ) (names : List (List ℕ)) → Among name names
 some_constant name [] h = absurd h
 some_constant name (other ∷ names) h = omega arith
 
+-- no constant of the small form is compound
+none_compound : (lists : List (List Activity)) (c : ℕ) (shape : Shape) → ¬ (IsCompound (map definition_of_activities lists) c shape)
+none_compound [] c shape h = let within = slice_get_within [] c (Compoundly shape) h in omega arith
+none_compound (list ∷ lists) zero shape h = cc
+none_compound (list ∷ lists) (suc c) shape h = none_compound lists c shape h
+
+-- and it has no sets
+no_set : {X : Type 0} (number : ℕ) (x : X) → ¬ (slice_get [] number ≡ Some x)
+no_set number x h = let within = slice_get_within [] number x h in omega arith
+
 -- the system's constant is a leaf, with the same number
 pub system_leaf : (text : SmallText) → IsWellNamed text → slice_get (model_of text).leaves (number_in (constants_of text.lines) text.system) ≡ Some (Const (number_in (constants_of text.lines) text.system))
 system_leaf text named =
@@ -162,5 +173,8 @@ module _ (text : SmallText) (are_lines : AllByRecursion IsLine text.lines) (few 
         subst (IsSoundLeaf (model_of text) number) same (sound_leaf number lt);
     activities = length-map text.lines line_list ∙ sym (length-map-range_with_len Const 0 (length text.lines));
     few_leaves = let len : length (leaves_of (length text.lines)) ≡ length text.lines = length-map-range_with_len Const 0 (length text.lines) in omega arith;
+    sets = λ number set at. absurd (no_set number set at);
+    compounds = λ c shape is. absurd (none_compound (activities_of (constants_of text.lines) (actions_of text.lines) text.lines) c shape is);
     system = (number_in (constants_of text.lines) text.system, system_leaf text named);
+    expanded = record { tree = LeafTree (Const (number_in (constants_of text.lines) text.system)); expands = refl; few = lit≤ tt };
   }

@@ -3,9 +3,9 @@ use Rattle.std.proofs.Common.{◌≡◌, ℕ, ◌≤◌, List, [], ◌∷◌, ma
 use Rattle.std.specs.List.{AllByRecursion}
 use Rattle.std.specs.Map.{keys_of}
 use Rattle.std.proofs.lemmas.List.{length-map}
-use Rattle.pepa_model.specs.Expression.{Const}
+use Rattle.pepa_model.specs.Expression.{Const, LeafShape}
 use Rattle.pepa_model.specs.Derivation.{Among}
-use Rattle.pepa_model.specs.PepaModel.{PepaModel, LeafShape, IsModel}
+use Rattle.pepa_model.specs.PepaModel.{PepaModel, IsModel}
 use Rattle.pepa_model.specs.declared.term.Activity.{Activity}
 use Rattle.sim_command.specs.declared.small_text.SmallPrefix.{SmallPrefix}
 use Rattle.sim_command.specs.declared.small_text.SmallLine.{SmallLine}

@@ -1,13 +1,11 @@
 -- How the expressions of the program open.
-use Rattle.std.proofs.Common.{◌≡◌, ℕ, ◌-◌, ◌<◌, ◌≤◌, List, Some, length, slice_get, ◌^◌, ◌∙◌, refl, ap, subst, arith}
-use Rattle.std.proofs.lemmas.Option.{slice_get_within}
-use Rattle.pepa_model.specs.Expression.{Expression, Const, Prefixed, Chosen, Definition, Sequentially, Defines}
+use Rattle.std.proofs.Common.{◌≡◌, ℕ, ◌-◌, ◌≤◌, List, Some, slice_get, ◌^◌, ◌∙◌, refl, ap, subst, arith}
+use Rattle.pepa_model.specs.Expression.{Expression, Const, Prefixed, Chosen, Definition, Defines, IsSequential}
 use Rattle.pepa_model.specs.Opened.{Opened, OpenPrefix, OpenChoice, OpenConst, Opens, height}
 use Rattle.pepa_model.specs.Expression.{WordTerm, LeafOf}
 use Rattle.pepa_model.specs.PepaModel.{PepaModel, IsModel}
 use Rattle.pepa_model.specs.Terms.{StandsFor}
-use Rattle.pepa_model.specs.declared.term.Term.{Term}
-use Rattle.pepa_model.specs.declared.term.Term.TheVariants.{Leaf}
+use Rattle.pepa_model.specs.declared.term.Term.{Term, Leaf}
 use Rattle.sim_command.specs.ApparentAnswers.{CanOpen}
 
 pub record OpensAsChoice (definitions : List Definition) (x y : Expression) (o : Opened) : Type 0 where
@@ -55,16 +53,16 @@ module _ (definitions : List Definition) where
         opens = subst (λ e. Opens definitions e p) same opens;
       }
 
-  -- the constant of an expression that opens has a body
-  pub has_body : (e : Expression) (c depth : ℕ) → e ≡ Const c → CanOpen definitions e depth → c < length definitions
+  -- the constant of an expression that opens stands for a component
+  pub has_body : (e : Expression) (c depth : ℕ) → e ≡ Const c → CanOpen definitions e depth → IsSequential definitions c
   has_body e c depth is h = of_opened h.opened h.opens
     where
-      of_opened : (o : Opened) → Opens definitions e o → c < length definitions
+      of_opened : (o : Opened) → Opens definitions e o → IsSequential definitions c
       of_opened (OpenPrefix b s after) h = absurd cc
       of_opened (OpenChoice p q) (x, y, e_is, opens_x, opens_y) = absurd cc
       of_opened (OpenConst d p) (e_is, (other, defined, opens)) =
           let same_constant : d ≡ c = cc in
-          subst (λ (n : ℕ). n < length definitions) same_constant (slice_get_within definitions d (Sequentially other) defined)
+          subst (λ (n : ℕ). IsSequential definitions n) same_constant (other, defined)
 
   pub record ChoiceCanOpen (x y : Expression) (depth : ℕ) : Type 0 where
     pub positive : 1 ≤ depth

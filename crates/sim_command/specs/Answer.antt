@@ -1,9 +1,9 @@
 -- What `pepaprobe steps` answers to an input: a status, the bytes for the output, and the line that tells a fault.
 use Rattle.std.specs.Prelude.{◌≡◌, ℕ, List, [], ◌⊎◌, Result, Ok, Err, Some, slice_get}
-use Rattle.pepa_model.specs.Expression.{Const, WordTerm, LeafOf}
+use Rattle.pepa_model.specs.Expression.{Const, WordTerm, LeafOf, Shape, LeafShape}
 use Rattle.pepa_model.specs.Derivation.{Transition, IsTransitionList}
 use Rattle.pepa_model.specs.Verdict.{IsWithoutFault, IsVerdict}
-use Rattle.pepa_model.specs.PepaModel.{PepaModel, Shape, LeafShape}
+use Rattle.pepa_model.specs.PepaModel.{PepaModel}
 use Rattle.sim_command.specs.declared.small_text.SmallText.{SmallText}
 use Rattle.sim_command.specs.declared.small_text.TextFault.{TextFault}
 use Rattle.sim_command.specs.declared.small_text.TextFault.TheVariants.{Unsupported, Memory}
@@ -33,9 +33,11 @@ ReadsModel input (Ok m) = Reads input m
 ReadsModel input (Err Unsupported) = (m : PepaModel) → ¬ Reads input m
 ReadsModel input (Err Memory) = Unit {0}
 
--- a model's first state is its system
+-- a model's first state is its system; one that isn't a leaf has none until cooperations have rules, and no text of the
+-- small form has such a system
 abbrev pub first_state : Shape → WordTerm
 first_state (LeafShape e) = LeafOf e
+first_state _ = LeafOf (Const 0)
 
 -- the system is a constant, and its leaf has the same number
 pub record HasConstantSystem (m : PepaModel) : Type 0 where

@@ -4,9 +4,9 @@ use Rattle.std.specs.List.{AllByRecursion, list_any, range_with_len}
 use Rattle.pepa_rates.specs.Fraction.{reduced}
 use Rattle.pepa_rates.specs.declared.rate.Rate.{Rate}
 use Rattle.pepa_rates.specs.declared.rate.Rate.TheVariants.{Active}
-use Rattle.pepa_model.specs.Expression.{Expression, Const, Prefixed, Chosen, Definition, Sequentially}
+use Rattle.pepa_model.specs.Expression.{Expression, Const, Prefixed, Chosen, LeafShape, Definition, Sequentially}
 use Rattle.pepa_model.specs.Derivation.{Among}
-use Rattle.pepa_model.specs.PepaModel.{PepaModel, LeafShape}
+use Rattle.pepa_model.specs.PepaModel.{PepaModel}
 use Rattle.pepa_model.specs.declared.term.Activity.{Activity}
 use Rattle.sim_command.specs.declared.small_text.SmallPrefix.{SmallPrefix}
 use Rattle.sim_command.specs.declared.small_text.SmallLine.{SmallLine}

@@ -7,8 +7,7 @@ use Rattle.pepa_model.specs.Derivation.{Transition, IsTransitionList}
 use Rattle.pepa_model.specs.Verdict.{TermFault, OfRates, OfLength, IsWithoutFault, IsVerdict}
 use Rattle.pepa_model.specs.PepaModel.{PepaModel}
 use Rattle.pepa_model.specs.Terms.{StandsFor, StepStandsFor}
-use Rattle.pepa_model.specs.declared.term.Term.{Term}
-use Rattle.pepa_model.specs.declared.term.Term.TheVariants.{Leaf}
+use Rattle.pepa_model.specs.declared.term.Term.{Term, Leaf}
 use Rattle.pepa_model.specs.declared.term.Step.{Step}
 use Rattle.pepa_model.specs.declared.term.Activity.{Activity}
 use Rattle.sim_command.specs.declared.action_rates.RatesEnd.{RatesEnd}

@@ -6,9 +6,8 @@ use Rattle.pepa_rates.specs.declared.rate.Rate.{Rate}
 use Rattle.pepa_rates.specs.declared.rate.Rate.TheVariants.{Active, Passive}
 use Rattle.pepa_model.specs.Expression.{Expression, Const, Prefixed, Chosen}
 use Rattle.pepa_model.specs.PepaModel.{PepaModel}
-use Rattle.pepa_model.specs.Terms.{IsTermOf}
-use Rattle.pepa_model.specs.declared.term.Term.{Term}
-use Rattle.pepa_model.specs.declared.term.Term.TheVariants.{Leaf}
+use Rattle.pepa_model.specs.Terms.{IsLeaf, IsTermOf}
+use Rattle.pepa_model.specs.declared.term.Term.{Term, Leaf}
 use Rattle.pepa_model.specs.declared.term.Step.{Step}
 
 -- ---- rates
@@ -61,9 +60,10 @@ abbrev pub leaf_text : PepaModel → Option Expression → List ℕ
 leaf_text m (Some e) = expression_text m e
 leaf_text m None = []
 
--- a term by the components of its leaves
+-- a term by the components of its leaves; only leaves have a text until cooperations have rules
 abbrev pub term_text : PepaModel → Term → List ℕ
 term_text m (Leaf number) = leaf_text m (slice_get m.leaves number)
+term_text m _ = []
 
 -- the action type, the rate and the target, with single spaces, and a line feed
 abbrev pub step_text : PepaModel → Step → List ℕ
@@ -72,11 +72,12 @@ step_text m step = name_of m.actions step.action ++ codes " " ++ rate_text step.
 abbrev pub steps_text_of : PepaModel → List Step → List ℕ
 steps_text_of m steps = flat_map (step_text m) steps
 
--- the step's numbers are the model's, and it has no signals
+-- the step's numbers are the model's, it has no signals, and a leaf follows
 pub record CanPrintStep (m : PepaModel) (step : Step) : Type 0 where
   pub action : step.action < length m.actions
   pub signals : step.signals ≡ 0
   pub target : IsTermOf m step.target
+  pub leaf : IsLeaf step.target
 
 abbrev pub CanPrint : PepaModel → List Step → Type 0
 CanPrint m steps = All (CanPrintStep m) steps

@@ -2,7 +2,7 @@
 ghost use Rattle.std.specs.Prelude.{◌≡◌, ◌<◌, Result, Option};
 ghost use Rattle.pepa_model.specs.Expression.{expression_of};
 ghost use Rattle.pepa_model.specs.Opened.{Opened, Opens};
-ghost use Rattle.pepa_model.specs.Terms.{IsTermOf};
+ghost use Rattle.pepa_model.specs.Terms.{IsLeaf, IsTermOf};
 ghost use Rattle.sim_command.specs.ApparentAnswers.{AnswersApparent, AnswersOpened, CanOpen, IsTogether};
 
 use pepa_model::{MAX_HEIGHT, Model, Sequential, Term};
@@ -13,6 +13,7 @@ use pepa_rates::{Rate, RateFault};
 /// The fault is that of the first part, in post-order, where the rate of this action isn't defined or isn't in range.
 pub fn apparent(model: &Model, term: &Term, action: u32) -> Result<Option<Rate>, RateFault>
     requires of_model { IsTermOf model.now term.now }
+    requires leaf { IsLeaf term.now }
     requires no_tau { 0 < action }
     ensures { AnswersApparent model.now term.now action result }
 {

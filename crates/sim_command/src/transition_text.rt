@@ -1,7 +1,7 @@
 ghost use Rattle.std.specs.Prelude.{◌≡◌, ◌++◌, ◌<◌, IfOk, OnOk, [], length, if◌then◌else◌};
 ghost use Rattle.pepa_model.specs.Expression.{expression_of};
 ghost use Rattle.pepa_model.specs.PepaModel.{IsNamed};
-ghost use Rattle.pepa_model.specs.Terms.{IsTermOf};
+ghost use Rattle.pepa_model.specs.Terms.{IsLeaf, IsTermOf};
 ghost use Rattle.sim_command.specs.StepsText as spec;
 ghost use Rattle.sim_command.specs.StepsText.{CanPrint, CanPrintStep, expression_text, fraction_text, name_of, prefix_text, rate_text, step_text, steps_text_of, term_text, weight_text};
 
@@ -35,7 +35,8 @@ fn push_step(alloc: Global, to: &mut Vec<u8>, model: &Model, step: &Step) -> Res
 }
 
 fn push_term(alloc: Global, to: &mut Vec<u8>, model: &Model, term: &Term) -> Result<(), AllocError>
-    requires { IsTermOf model.now term.now }
+    requires of_model { IsTermOf model.now term.now }
+    requires leaf { IsLeaf term.now }
     ensures { OnOk result (to.new.items ≡ to.old.items ++ term_text model.now term.now) }
 {
     model.is_sound();

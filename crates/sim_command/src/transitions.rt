@@ -1,7 +1,7 @@
 //! The transitions of a term, and the verdict on it.
 ghost use Rattle.std.specs.Prelude.{◌≡◌, ◌<◌, IfOk, map, length, slice_get};
 ghost use Rattle.pepa_model.specs.Expression.{Expression, LeafOf};
-ghost use Rattle.pepa_model.specs.Terms.{IsTermOf};
+ghost use Rattle.pepa_model.specs.Terms.{IsLeaf, IsTermOf};
 ghost use Rattle.sim_command.specs.StepsAnswers.{AnswersSteps, IsVerdictAnswer, IsSameFault, step_of};
 
 use crate::action_rates::{RatesEnd, component_rates};
@@ -42,7 +42,8 @@ impl From<AllocError> for StepsEnd {
 /// The transitions of a term (Hillston 1996, chapter 3): one step for each derivation, in derivation order, with its
 /// exact rate.
 pub fn steps(alloc: Global, model: &Model, term: &Term) -> Result<StepList, StepsEnd>
-    requires { IsTermOf model.now term.now }
+    requires of_model { IsTermOf model.now term.now }
+    requires leaf { IsLeaf term.now }
     ensures { AnswersSteps model.now term.now result }
 {
     model.is_sound();

@@ -45,6 +45,7 @@ fn is_constant(component: &Sequential, number: u32) -> bool {
 fn is_system(system: &Shape2, number: u32) -> bool {
     match system {
         Shape2::Leaf(component) => is_constant(component, number),
+        _ => false,
     }
 }
 

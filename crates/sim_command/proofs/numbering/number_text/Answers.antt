@@ -1,8 +1,8 @@
 use Rattle.std.proofs.Common.{◌≡◌, List, map, ap, ◌∙◌, refl}
 use Rattle.std.proofs.lemmas.Result.{err_from_is_err_and}
 use Rattle.indexmap.specs.IndexMap.{keys}
-use Rattle.pepa_model.specs.Expression.{Const, expression_of, definition_of}
-use Rattle.pepa_model.specs.PepaModel.{PepaModel, LeafShape}
+use Rattle.pepa_model.specs.Expression.{Const, LeafShape, expression_of, definition_of}
+use Rattle.pepa_model.specs.PepaModel.{PepaModel}
 use Rattle.pepa_model.specs.declared.term.Activity.{Activity}
 use Rattle.sim_command.specs.Numbering.{definition_of_activities, activities_of, model_of, IsModelOf}
 use Rattle.sim_command.proofs.NumberedText.{actions_known, some_activities, text_fault, few_keys, numbered, model_is_sound}

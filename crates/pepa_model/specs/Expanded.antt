@@ -1,0 +1,25 @@
+-- Systems with their compound constants expanded. A compound constant stands for its system, so a system in which no
+-- compound constant reaches itself expands into a finite tree, and into one only.
+use Rattle.std.specs.Prelude.{◌≡◌, ℕ, ◌+◌, List}
+use Rattle.pepa_model.specs.Expression.{Expression, Shape, LeafShape, ConstShape, CoopShape, HideShape, Definition, IsCompound}
+
+-- a system whose compound constants are expanded down to the leaves
+pub data Expanded : Type 0 where
+  LeafTree : Expression → Expanded
+  ConstTree : ℕ → Expanded → Expanded
+  CoopTree : Expanded → Expanded → ℕ → Expanded
+  HideTree : Expanded → ℕ → Expanded
+
+-- the system expands into the tree
+abbrev pub Expands : List Definition → Shape → Expanded → Type 0
+Expands definitions shape (LeafTree e) = shape ≡ LeafShape e
+Expands definitions shape (ConstTree c p) = (shape ≡ ConstShape c) × ((body : Shape) × IsCompound definitions c body × Expands definitions body p)
+Expands definitions shape (CoopTree p q set) = (x : Shape) × (y : Shape) × (shape ≡ CoopShape x y set) × Expands definitions x p × Expands definitions y q
+Expands definitions shape (HideTree p set) = (x : Shape) × (shape ≡ HideShape x set) × Expands definitions x p
+
+-- how many leaves the tree has
+abbrev pub leaves_in : Expanded → ℕ
+leaves_in (LeafTree e) = 1
+leaves_in (ConstTree c p) = leaves_in p
+leaves_in (CoopTree p q set) = leaves_in p + leaves_in q
+leaves_in (HideTree p set) = leaves_in p
