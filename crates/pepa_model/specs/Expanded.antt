@@ -1,6 +1,6 @@
 -- Systems with their compound constants expanded. A compound constant stands for its system, so a system in which no
 -- compound constant reaches itself expands into a finite tree, and into one only.
-use Rattle.std.specs.Prelude.{◌≡◌, ℕ, ◌+◌, List}
+use Rattle.std.specs.Prelude.{◌≡◌, ℕ, ◌+◌, max, List}
 use Rattle.pepa_model.specs.Expression.{Expression, Shape, LeafShape, ConstShape, CoopShape, HideShape, Definition, IsCompound}
 
 -- a system whose compound constants are expanded down to the leaves
@@ -23,3 +23,10 @@ leaves_in (LeafTree e) = 1
 leaves_in (ConstTree c p) = leaves_in p
 leaves_in (CoopTree p q set) = leaves_in p + leaves_in q
 leaves_in (HideTree p set) = leaves_in p
+
+-- how many cooperations, hidings and compound constants stand above one another
+abbrev pub height_of : Expanded → ℕ
+height_of (LeafTree e) = 0
+height_of (ConstTree c p) = height_of p + 1
+height_of (CoopTree p q set) = max (height_of p) (height_of q) + 1
+height_of (HideTree p set) = height_of p + 1

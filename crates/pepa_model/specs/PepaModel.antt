@@ -5,7 +5,7 @@ use Rattle.std.specs.List.Sorted.{IsStrictlyIncreasing}
 use Rattle.pepa_model.specs.Expression.{Expression, Const, Prefixed, Chosen, LeafOf, Shape, LeafShape, ConstShape, CoopShape, HideShape, Definition, IsCompound}
 use Rattle.pepa_model.specs.Derivation.{Transition, IsTransitionList}
 use Rattle.pepa_model.specs.Opened.{Opened, Opens, moves, height}
-use Rattle.pepa_model.specs.Expanded.{Expanded, Expands, leaves_in}
+use Rattle.pepa_model.specs.Expanded.{Expanded, Expands, leaves_in, height_of}
 use Rattle.pepa_model.specs.declared.term.Activity.{Activity}
 
 -- the parts of a model: the names of its constants and of its action types, whose places are their numbers; what each
@@ -64,11 +64,12 @@ IsShapeOf m (ConstShape c) = (shape : Shape) × IsCompound m.bodies c shape
 IsShapeOf m (CoopShape x y set) = IsShapeOf m x × IsShapeOf m y × (set < length m.sets)
 IsShapeOf m (HideShape x set) = IsShapeOf m x × (set < length m.sets)
 
--- the system expands, into at most 255 leaves
+-- the system expands, into at most 255 leaves and not too deep
 pub record HasFewLeaves (m : PepaModel) : Type 0 where
   pub tree : Expanded
   pub expands : Expands m.bodies m.system tree
   pub few : leaves_in tree ≤ 255
+  pub shallow : height_of tree ≤ 2 ^ 21
 
 -- what holds of each model
 pub record IsModel (m : PepaModel) : Type 0 where

@@ -176,5 +176,5 @@ module _ (text : SmallText) (are_lines : AllByRecursion IsLine text.lines) (few 
     sets = λ number set at. absurd (no_set number set at);
     compounds = λ c shape is. absurd (none_compound (activities_of (constants_of text.lines) (actions_of text.lines) text.lines) c shape is);
     system = (number_in (constants_of text.lines) text.system, system_leaf text named);
-    expanded = record { tree = LeafTree (Const (number_in (constants_of text.lines) text.system)); expands = refl; few = lit≤ tt };
+    expanded = record { tree = LeafTree (Const (number_in (constants_of text.lines) text.system)); expands = refl; few = lit≤ tt; shallow = lit≤ tt };
   }
