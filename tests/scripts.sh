@@ -6,6 +6,7 @@ cd "$(dirname -- "$0")/.." || exit 1
 
 status=0
 scripts=(bin/pepaprobe .ci/run tests/*.sh tests/common.bash tests/more-edits/run)
+benches=(bench/*-scale)
 for script in "${scripts[@]}"; do
     bash -n "$script" || status=1
 done
@@ -17,12 +18,12 @@ else
 fi
 
 if command -v python3 >/dev/null 2>&1; then
-    python3 -c 'import sys; [compile(open(it).read(), it, "exec") for it in sys.argv[1:]]' bench/steps-scale bench/lex-scale || status=1
+    python3 -c 'import sys; [compile(open(it).read(), it, "exec") for it in sys.argv[1:]]' "${benches[@]}" || status=1
 else
     echo "skipped: python3 isn't installed"
 fi
 
-for script in bin/pepaprobe .ci/run bench/steps-scale bench/lex-scale tests/more-edits/run; do
+for script in bin/pepaprobe .ci/run tests/more-edits/run "${benches[@]}"; do
     [ -x "$script" ] || {
         echo "FAILED: $script can't be executed"
         status=1
