@@ -1,3 +1,6 @@
+ghost use Rattle.std.specs.Prelude.{◌≡◌, IfOk};
+ghost use Rattle.pepa_model.specs.Terms.{term_of, LeafNode, CoopNode, HideNode};
+
 use crate::{Name, Term, leaf_count};
 use std::alloc::{AllocError, Global};
 use std::test::Fail;
@@ -20,7 +23,9 @@ fn a_term_has_its_leaf(rt: HostRuntime) -> Result<(), Fail> {
 }
 
 // 3 and 5 cooperate over set 1, set 2 is hidden in that, and this cooperates over set 0 with 3.
-fn cooperating(alloc: Global) -> Result<Term, AllocError> {
+fn cooperating(alloc: Global) -> Result<Term, AllocError>
+    ensures { IfOk result (λ term. term_of term ≡ CoopNode (HideNode (CoopNode (LeafNode 3) (LeafNode 5) 1) 2) (LeafNode 3) 0) }
+{
     let left = Box::new(alloc, Term::Leaf(3))?;
     let right = Box::new(alloc, Term::Leaf(5))?;
     let pair = Box::new(alloc, Term::Coop(left, right, 1))?;
@@ -32,9 +37,21 @@ fn cooperating(alloc: Global) -> Result<Term, AllocError> {
 fn a_copy_has_the_same_leaves(rt: HostRuntime) -> Result<(), Fail> {
     let term = cooperating(rt.alloc())?;
     let copy = term.copy(rt.alloc())?;
-    for (leaf, count) in [(3, 2), (5, 1), (0, 0)] {
-        assert_eq!(rt; leaf_count(&term, leaf), count);
-        assert_eq!(rt; leaf_count(&copy, leaf), count);
-    }
+    assert_eq!(rt;
+        (
+            leaf_count(&term, 3),
+            leaf_count(&term, 5),
+            leaf_count(&term, 0)
+        ),
+        (2, 1, 0)
+    );
+    assert_eq!(rt;
+        (
+            leaf_count(&copy, 3),
+            leaf_count(&copy, 5),
+            leaf_count(&copy, 0)
+        ),
+        (2, 1, 0)
+    );
     Ok(())
 }
