@@ -14,3 +14,12 @@ pub mod OutcomeLists
 pub mod FirstBads
 pub mod GoodRates
 pub mod RateChecks
+pub mod Ascending
+pub mod NumberNames
+pub mod NumberedFile
+pub mod NumberMeanings
+pub mod Marks
+pub mod Reaching
+pub mod Bodies
+pub mod Sequentials
+pub mod EdgeLists

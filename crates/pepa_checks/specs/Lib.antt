@@ -8,3 +8,11 @@ pub mod Values
 pub mod FirstBad
 pub mod CheckedRates
 pub mod FirstChecks
+pub mod Named
+pub mod NamedTypes
+pub mod Numbers
+pub mod NumberSteps
+pub mod Structure
+pub mod Graphs
+pub mod Marking
+pub mod StructureAnswers

@@ -3,13 +3,19 @@
 
 mod cause;
 mod checks;
+mod compounds;
+mod cycles;
 pub mod laws;
 mod least;
 mod lines;
+mod named;
 mod names;
+mod naming;
+mod numbers;
 mod sets;
 mod sites;
 mod source;
+mod structure;
 mod tables;
 mod unknown;
 mod values;
