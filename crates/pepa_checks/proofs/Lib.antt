@@ -23,3 +23,5 @@ pub mod Reaching
 pub mod Bodies
 pub mod Sequentials
 pub mod EdgeLists
+pub mod Structured
+pub mod Stops

@@ -348,3 +348,4 @@ refused_within input tokens tree cause i is h = by cause h
     by UnknownName r = (unknown_each (Inside 0 (length tokens)) (file_node_of tree) each (name_at input tokens) i r.1.stands).1
     by TauInSet r = at_token Tau r.1.stands.1
     by BadRate r = (bad_each (Inside 0 (length tokens)) (file_node_of tree) each tokens (name_at input tokens) r.1.0 r.1.2.start i r.1.1 r.1.2.bad).1
+    by _ r = elim r [ ]

@@ -16,3 +16,4 @@ pub mod Structure
 pub mod Graphs
 pub mod Marking
 pub mod StructureAnswers
+pub mod StructuredFiles

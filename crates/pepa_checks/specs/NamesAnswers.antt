@@ -29,7 +29,7 @@ KnownNames input tokens file = FineNames input tokens file × HasNone (UnknownAt
 abbrev pub FineSets : List ℕ → List Token → FileNode → Type 0
 FineSets input tokens file = KnownNames input tokens file × HasNone (TauAt (IsTau input tokens) file)
 
--- the file is refused for the cause at the index
+-- the file is refused for the cause at the index, one of these five
 abbrev pub IsRefusedFor : List ℕ → List Token → FileNode → CheckCause → ℕ → Type 0
 IsRefusedFor input tokens file TooMany i = IsLeast (TooManyAt file) i
 IsRefusedFor input tokens file Twice i = FineLimits input tokens file × IsLeast (TwiceAt (name_at input tokens) file) i
@@ -37,6 +37,7 @@ IsRefusedFor input tokens file UnknownName i = FineNames input tokens file × Is
 IsRefusedFor input tokens file TauInSet i = KnownNames input tokens file × IsLeast (TauAt (IsTau input tokens) file) i
 IsRefusedFor input tokens file BadRate i =
     FineSets input tokens file × ((outcomes : List (Outcome Rate)) × AreOutcomes tokens (name_at input tokens) file.rates outcomes × IsFirstBadRate tokens (name_at input tokens) file outcomes i)
+IsRefusedFor input tokens file _ i = ⊥
 
 -- at the place of the token at the index
 pub record IsRefusal (input : List ℕ) (tokens : List Token) (file : FileNode) (cause : CheckCause) (place : Place) : Type 0 where

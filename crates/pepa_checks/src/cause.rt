@@ -14,6 +14,12 @@ pub enum CheckCause {
     TauInSet,
     /// A rate has no value in range.
     BadRate,
+    /// What has to be sequential has a cooperation or a hiding.
+    NotSequential,
+    /// A compound constant reaches itself.
+    ModelCycle,
+    /// A sequential constant reaches itself with no activity between.
+    Unguarded,
     /// A limit is passed.
     TooMany,
 }

@@ -30,7 +30,7 @@ pub struct NamesAndRates {
 }
 
 /// The refusal of a file for a cause, at the token at an index.
-fn refusal(source: &Source, cause: CheckCause, at: usize) -> CheckEnd
+pub(crate) fn refusal(source: &Source, cause: CheckCause, at: usize) -> CheckEnd
     requires { at < length source.now.tokens.now }
     ensures { (token : Token) × (slice_get source.now.tokens.now at ≡ Some token) × (result ≡ CheckEnd.Refused cause token.place) }
 {

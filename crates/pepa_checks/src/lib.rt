@@ -6,6 +6,7 @@ mod checks;
 mod compounds;
 mod cycles;
 pub mod laws;
+mod file_structure;
 mod least;
 mod lines;
 mod named;
@@ -22,4 +23,6 @@ mod values;
 
 pub use cause::{CheckCause, CheckEnd};
 pub use checks::{NamesAndRates, RateList, check_names_and_rates};
+pub use file_structure::{StructuredFile, check_names_rates_and_structure};
+pub use named::NamedProcess;
 pub use names::Names;

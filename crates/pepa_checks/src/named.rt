@@ -3,7 +3,7 @@ use sqlite_items::Items;
 
 /// A process with numbers in place of names.
 #[derive(Debug, Drop)]
-pub(crate) enum NamedProcess {
+pub enum NamedProcess {
     /// The constant at this index, by its number.
     Constant {
         at: usize,

@@ -74,7 +74,7 @@ fn add_words_of(
     match process {
         ProcessTree::Constant(_) => Ok(()),
         ProcessTree::Prefix { at, next, .. } => {
-            add_word(alloc, actions, source, *at)?;
+            add_word(alloc, actions, source, behind(source, *at))?;
             add_words_of(alloc, actions, source, next)
         }
         ProcessTree::Choice(left, right) => {
