@@ -17,3 +17,6 @@ mod values;
 pub use cause::{CheckCause, CheckEnd};
 pub use checks::{NamesAndRates, RateList, check_names_and_rates};
 pub use names::Names;
+
+#[cfg(test)]
+mod tests;
