@@ -34,6 +34,7 @@ few_lines file none = by (length (process_ats file.processes)) refl
   where
     past : 1024 < length (process_ats file.processes) → ⊥
     past more = none (get_or (process_ats file.processes) 1024 0) (slice_get-get_or (process_ats file.processes) 1024 0 more)
+
     by : (n : ℕ) → length (process_ats file.processes) ≡ n → length (process_ats file.processes) ≤ 1024
     by n e = omega (arith, past)
 

@@ -1,5 +1,6 @@
 mod names;
 mod rates;
+mod structure;
 
 use crate::{CheckCause, CheckEnd, NamesAndRates, check_names_and_rates};
 use pepa_lexer::{Place, tokens};
