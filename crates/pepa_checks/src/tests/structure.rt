@@ -20,6 +20,19 @@ fn check(
 }
 
 // A text of one line is refused where its mark, `@`, stands, and fine where it has none.
+fn is_judged(rt: &impl Abort, alloc: Global, cause: CheckCause, text: &str) -> Result<(), Fail> {
+    let (front, back) = text.split_once('@').unwrap_or((text, ""));
+    let plain = format!(in alloc; "{front}{back}")?;
+    let column = u32::try_from(front.len())?.saturating_add(1);
+    let place = Place { line: 1, column };
+    let want = text
+        .contains('@')
+        .then_some(CheckEnd::Refused { cause, place });
+    let found = check(rt, alloc, plain.as_bytes())?.err();
+    assert_eq!(rt; found, want, "{text}");
+    Ok(())
+}
+
 #[test]
 fn misbuilt_files(rt: HostRuntime) -> Result<(), Fail> {
     let table = [
@@ -90,14 +103,7 @@ fn misbuilt_files(rt: HostRuntime) -> Result<(), Fail> {
         ),
     ];
     for (text, cause) in table {
-        let (front, back) = text.split_once('@').unwrap_or((text, ""));
-        let plain = format!(in rt.alloc(); "{front}{back}")?;
-        let column = u32::try_from(front.len())?.saturating_add(1);
-        let place = Place { line: 1, column };
-        let refused = CheckEnd::Refused { cause, place };
-        let want = text.contains('@').then_some(refused);
-        let found = check(&rt, rt.alloc(), plain.as_bytes())?.err();
-        assert_eq!(rt; found, want, "{text}");
+        is_judged(&rt, rt.alloc(), cause, text)?;
     }
     Ok(())
 }
@@ -143,7 +149,32 @@ fn write_named(out: &mut String, process: &NamedProcess) -> Result<(), AllocErro
     }
 }
 
+fn write_actions(out: &mut String, found: &StructuredFile) -> Result<(), Fail> {
+    for name in found.actions.keys() {
+        let name = str::from_utf8(name.as_bytes())?;
+        write!(out, "{name} ")?;
+    }
+    Ok(())
+}
+
+fn write_bodies(out: &mut String, found: &StructuredFile) -> Result<(), AllocError> {
+    for body in found.bodies.as_slice() {
+        write_named(out, body)?;
+        write!(out, " ")?;
+    }
+    Ok(())
+}
+
 // The action types in order, then each body and the system.
+fn line_of(alloc: Global, found: &StructuredFile) -> Result<String, Fail> {
+    let mut out = String::new(alloc);
+    write_actions(&mut out, found)?;
+    write!(out, ": ")?;
+    write_bodies(&mut out, found)?;
+    write_named(&mut out, &found.system)?;
+    Ok(out)
+}
+
 #[test]
 fn numbers(rt: HostRuntime) -> Result<(), Fail> {
     let table = [
@@ -159,18 +190,7 @@ fn numbers(rt: HostRuntime) -> Result<(), Fail> {
     ];
     for (text, want) in table {
         let found = check(&rt, rt.alloc(), text.as_bytes())??;
-        let mut line = String::new(rt.alloc());
-        for name in found.actions.keys() {
-            let name = str::from_utf8(name.as_bytes())?;
-            write!(line, "{name} ")?;
-        }
-        write!(line, ":")?;
-        for body in found.bodies.as_slice() {
-            write!(line, " ")?;
-            write_named(&mut line, body)?;
-        }
-        write!(line, " ")?;
-        write_named(&mut line, &found.system)?;
+        let line = line_of(rt.alloc(), &found)?;
         assert_eq!(rt; line.as_str(), want, "{text}");
     }
     Ok(())
