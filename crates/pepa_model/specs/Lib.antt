@@ -5,6 +5,7 @@ pub mod Opened
 pub mod Apparent
 pub mod Verdict
 pub mod Expanded
+pub mod Leaves
 pub mod PepaModel
 pub mod ModelView
 pub mod Terms

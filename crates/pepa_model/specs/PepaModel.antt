@@ -1,11 +1,14 @@
 -- A model as contracts see it, and what holds of each.
-use Rattle.std.specs.Prelude.{◌≡◌, ℕ, ◌^◌, ◌<◌, ◌≤◌, Some, List, slice_get, length, codes}
-use Rattle.std.specs.List.{AllByRecursion, AllZip}
+use Rattle.std.specs.Prelude.{◌≡◌, ℕ, ◌^◌, ◌<◌, ◌≤◌, ⊤, List, [], ◌∷◌, Some, slice_get, length, sum_by, nat_eq, codes}
+use Rattle.std.specs.List.{AllByRecursion, AllZip, range_with_len}
 use Rattle.std.specs.List.Sorted.{IsStrictlyIncreasing}
+use Rattle.pepa_rates.specs.declared.rate.Rate.{Rate}
+use Rattle.pepa_rates.specs.declared.rate.Rate.TheVariants.{Active, Passive}
 use Rattle.pepa_model.specs.Expression.{Expression, Const, Prefixed, Chosen, LeafOf, Shape, LeafShape, ConstShape, CoopShape, HideShape, Definition, IsCompound}
-use Rattle.pepa_model.specs.Derivation.{Transition, IsTransitionList}
+use Rattle.pepa_model.specs.Derivation.{Transition, IsTransitionList, Among}
 use Rattle.pepa_model.specs.Opened.{Opened, Opens, moves, height}
 use Rattle.pepa_model.specs.Expanded.{Expanded, Expands, leaves_in, height_of}
+use Rattle.pepa_model.specs.Leaves.{each_once, leaves_of, set_numbers, action_numbers}
 use Rattle.pepa_model.specs.declared.term.Activity.{Activity}
 
 -- the parts of a model: the names of its constants and of its action types, whose places are their numbers; what each
@@ -50,6 +53,28 @@ pub record IsSoundLeaf (m : PepaModel) (number : ℕ) (e : Expression) : Type 0 
   pub known : AllByRecursion (λ a. a.action < length m.actions) activities
   pub named : IsNamed m e
 
+-- one rate is active and the other passive
+abbrev pub IsOtherKind : Rate → Rate → Type 0
+IsOtherKind (Active p) (Active q) = ⊥
+IsOtherKind (Active p) (Passive q) = ⊤
+IsOtherKind (Passive p) (Active q) = ⊤
+IsOtherKind (Passive p) (Passive q) = ⊥
+
+-- among a leaf's activities, the one at this place has an earlier one of the same type with the other kind of rate
+pub record IsMixedAt (activities : List Activity) (place : ℕ) : Type 0 where
+  pub later : Activity
+  pub later_is : slice_get activities place ≡ Some later
+  pub before : ℕ
+  pub is_before : before < place
+  pub earlier : Activity
+  pub earlier_is : slice_get activities before ≡ Some earlier
+  pub same_action : earlier.action ≡ later.action
+  pub other_kind : IsOtherKind earlier.rate later.rate
+
+-- none of them has
+abbrev pub AreUnmixed : List Activity → Type 0
+AreUnmixed activities = (place : ℕ) → ¬ IsMixedAt activities place
+
 -- what holds of each set: its action types ascend, and they are the model's, without `tau`
 pub record IsActionSet (m : PepaModel) (set : List ℕ) : Type 0 where
   pub ascends : IsStrictlyIncreasing set
@@ -64,12 +89,52 @@ IsShapeOf m (ConstShape c) = (shape : Shape) × IsCompound m.bodies c shape
 IsShapeOf m (CoopShape x y set) = IsShapeOf m x × IsShapeOf m y × (set < length m.sets)
 IsShapeOf m (HideShape x set) = IsShapeOf m x × (set < length m.sets)
 
--- the system expands, into at most 255 leaves and not too deep
-pub record HasFewLeaves (m : PepaModel) : Type 0 where
+-- it isn't one sequential component
+abbrev pub IsNoLeaf : Shape → Type 0
+IsNoLeaf shape = (e : Expression) → ¬ (shape ≡ LeafShape e)
+
+-- the system expands, not too deep
+pub record HasTree (m : PepaModel) (shape : Shape) : Type 0 where
   pub tree : Expanded
-  pub expands : Expands m.bodies m.system tree
-  pub few : leaves_in tree ≤ 255
+  pub expands : Expands m.bodies shape tree
   pub shallow : height_of tree ≤ 2 ^ 21
+
+-- into at most 255 leaves
+pub record HasFewLeaves (m : PepaModel) : Type 0 where
+  pub expanded : HasTree m m.system
+  pub few : leaves_in expanded.tree ≤ 255
+
+-- what a compound constant stands for: a system that is no leaf, and that expands
+pub record IsCompoundBody (m : PepaModel) (shape : Shape) : Type 0 where
+  pub no_leaf : IsNoLeaf shape
+  pub is_shape : IsShapeOf m shape
+  pub expanded : HasTree m shape
+
+-- no element stands twice
+abbrev pub AreDistinct : {X : Type 0} → List X → Type 0
+AreDistinct [] = ⊤
+AreDistinct (x ∷ xs) = (¬ Among x xs) × AreDistinct xs
+
+-- the numbers are each one at its first place from 0 on, so many
+abbrev pub AreByFirstPlaces : List ℕ → ℕ → Type 0
+AreByFirstPlaces numbers count = each_once nat_eq numbers ≡ range_with_len 0 count
+
+-- things are numbered by their first places, and no two that are numbered are equal
+pub record IsNumbered (m : PepaModel) : Type 0 where
+  pub constants : AreDistinct m.constants
+  pub actions : AreDistinct m.actions
+  pub sets : AreDistinct m.sets
+  pub actions_by_place : AreByFirstPlaces (action_numbers m.sets m.bodies m.system) (length m.actions)
+  pub sets_by_place : AreByFirstPlaces (set_numbers m.bodies m.system) (length m.sets)
+  pub leaves_by_place : m.leaves ≡ leaves_of m.bodies m.system
+
+-- there are not too many; 1,024 action types beside `tau`
+pub record IsWithinLimits (m : PepaModel) : Type 0 where
+  pub constants : length m.constants ≤ 1024
+  pub actions : length m.actions ≤ 1025
+  pub sets : length m.sets ≤ 1024
+  pub leaves : length m.leaves ≤ 65535
+  pub activities : sum_by length m.activities ≤ 65535
 
 -- what holds of each model
 pub record IsModel (m : PepaModel) : Type 0 where
@@ -77,8 +142,10 @@ pub record IsModel (m : PepaModel) : Type 0 where
   pub tau : slice_get m.actions 0 ≡ Some (codes "tau")
   pub leaves : (number : ℕ) (e : Expression) → slice_get m.leaves number ≡ Some e → IsSoundLeaf m number e
   pub activities : length m.activities ≡ length m.leaves
-  pub few_leaves : length m.leaves ≤ 65535
+  pub unmixed : (number : ℕ) (activities : List Activity) → slice_get m.activities number ≡ Some activities → AreUnmixed activities
   pub sets : (number : ℕ) (set : List ℕ) → slice_get m.sets number ≡ Some set → IsActionSet m set
-  pub compounds : (c : ℕ) (shape : Shape) → IsCompound m.bodies c shape → IsShapeOf m shape
+  pub compounds : (c : ℕ) (shape : Shape) → IsCompound m.bodies c shape → IsCompoundBody m shape
   pub system : IsShapeOf m m.system
-  pub expanded : HasFewLeaves m
+  pub few_leaves : HasFewLeaves m
+  pub numbered : IsNumbered m
+  pub limits : IsWithinLimits m

@@ -1,5 +1,0 @@
-use Rattle.pepa_checks.proofs.Within.{refused_within}
-use Rattle.pepa_checks.proofs.laws.is_refused_at_a_token.Goals as goal
-
-pub returns : goal.returns
-returns c = refused_within

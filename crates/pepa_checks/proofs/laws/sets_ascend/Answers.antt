@@ -1,9 +1,0 @@
-use Rattle.pepa_checks.proofs.Ascending.{set_ascends, increasing_from, set_has, set_no_more}
-use Rattle.pepa_checks.specs.Named.{set_of}
-use Rattle.pepa_checks.proofs.laws.sets_ascend.Goals as goal
-
-pub returns-clause-ascending : goal.returns-clause-ascending
-returns-clause-ascending c = λ numbers. increasing_from (set_of numbers) (set_ascends numbers)
-
-pub returns-clause-same : goal.returns-clause-same
-returns-clause-same c = λ numbers n. (set_no_more numbers n, set_has numbers n)

@@ -1,9 +1,0 @@
-use Rattle.std.proofs.Common.{map, take}
-use Rattle.pepa_reader.specs.Trees.{rate_line_of}
-use Rattle.pepa_checks.specs.Parts.{name_at}
-use Rattle.pepa_checks.specs.Outcomes.{AreOutcomes}
-use Rattle.pepa_checks.specs.Values.{outcome_of}
-use Rattle.pepa_checks.proofs.lines.line_values.Given as goal
-
-abbrev pub invariant-loop-line : goal.invariant-loop-line
-invariant-loop-line l = AreOutcomes l.source.tokens.now (name_at l.source.input.now l.source.tokens.now) (map rate_line_of (take l.line-index l.lines)) (map outcome_of l.values)

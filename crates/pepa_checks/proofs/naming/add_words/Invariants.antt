@@ -1,8 +1,0 @@
-use Rattle.std.proofs.Common.{◌≡◌, map, take}
-use Rattle.indexmap.specs.IndexMap.{keys}
-use Rattle.pepa_checks.specs.Parts.{name_at}
-use Rattle.pepa_checks.specs.NumberSteps.{with_names}
-use Rattle.pepa_checks.proofs.naming.add_words.Given as goal
-
-abbrev pub invariant-loop-word : goal.invariant-loop-word
-invariant-loop-word l = keys l.actions ≡ with_names (keys l.fn.actions) (map (name_at l.source.input.now l.source.tokens.now) (take l.word-index l.words))

@@ -1,8 +1,0 @@
-use Rattle.std.proofs.Common.{take}
-use Rattle.indexmap.specs.IndexMap.{keys}
-use Rattle.pepa_checks.specs.Parts.{name_at}
-use Rattle.pepa_checks.proofs.Repeated.{SoFar}
-use Rattle.pepa_checks.proofs.tables.line_names.Given as goal
-
-abbrev pub invariant-loop-at : goal.invariant-loop-at
-invariant-loop-at l = SoFar (name_at l.source.input.now l.source.tokens.now) (take l.at-index l.ats) (keys l.names) l.repeated

@@ -1,9 +1,0 @@
-use Rattle.std.proofs.Common.{map, take}
-use Rattle.pepa_reader.specs.Trees.{rate_line_of}
-use Rattle.pepa_checks.specs.Parts.{name_at}
-use Rattle.pepa_checks.specs.Faults.{IsEarlyName}
-use Rattle.pepa_checks.specs.Finding.{Finds}
-use Rattle.pepa_checks.proofs.unknown.early_name.Given as goal
-
-abbrev pub invariant-loop-above : goal.invariant-loop-above
-invariant-loop-above l = Finds (IsEarlyName (name_at l.source.input.now l.source.tokens.now) (map rate_line_of (take l.above l.lines))) l.found

@@ -1,6 +1,0 @@
-use Rattle.std.proofs.Common.{sym}
-use Rattle.pepa_checks.proofs.ValueLemmas.{zero_refused}
-use Rattle.pepa_checks.proofs.values.fine.Goals as goal
-
-pub returns-then-n-eq0 : goal.returns-then-n-eq0
-returns-then-n-eq0 c = rw c.if-n-eq0.true (sym (zero_refused c.args.at c.args.d))

@@ -1,0 +1,91 @@
+-- What checking a file answers: its model, or its first fault.
+use Rattle.std.specs.Prelude.{◌≡◌, ℕ, ◌^◌, ◌≤◌, ◌⊎◌, Bool, List, length, Some, slice_get, Result, Ok, Err}
+use Rattle.std.specs.List.{AllZip}
+use Rattle.pepa_rates.specs.declared.rate.Rate.{Rate}
+use Rattle.pepa_lexer.specs.declared.kinds.Token.{Token}
+use Rattle.pepa_lexer.specs.declared.kinds.Place.{Place}
+use Rattle.pepa_lexer.specs.TokenLists.{IsTokens}
+use Rattle.pepa_reader.specs.declared.trees.FileTree.{FileTree}
+use Rattle.pepa_reader.specs.Terminals.{terminals}
+use Rattle.pepa_reader.specs.Trees.{FileNode, file_node_of}
+use Rattle.pepa_reader.specs.FileAnswers.{IsFileTree}
+use Rattle.pepa_model.specs.PepaModel.{PepaModel}
+use Rattle.pepa_resolver.specs.declared.cause.CheckCause.{CheckCause}
+use Rattle.pepa_resolver.specs.declared.cause.CheckCause.TheVariants.{TooMany, MixedChoice}
+use Rattle.pepa_resolver.specs.declared.cause.CheckEnd.{CheckEnd}
+use Rattle.pepa_resolver.specs.declared.cause.CheckEnd.TheVariants.{Refused, Memory}
+use Rattle.pepa_resolver.specs.Parts.{name_at}
+use Rattle.pepa_resolver.specs.Named.{Named, first_at}
+use Rattle.pepa_resolver.specs.Numbers.{constants_of, actions_of}
+use Rattle.pepa_resolver.specs.Structure.{IsCompound}
+use Rattle.pepa_resolver.specs.Graphs.{IsTableOf}
+use Rattle.pepa_resolver.specs.StructureAnswers.{IsStructured}
+use Rattle.pepa_resolver.specs.StructuredFiles.{IsNumbered, IsStoppedFor}
+use Rattle.pepa_checks.specs.Outline.{Outline, outline_of}
+use Rattle.pepa_checks.specs.Activities.{HasActivities, HasNoMixed, IsFirstMixed, written_leaves}
+use Rattle.pepa_checks.specs.Limits.{PassesLimit}
+
+-- a file without a fault up to its structure: its rates, what its constants stand for and its system, with numbers in place
+-- of names, and which constants are compound
+pub record Sound (input : List ℕ) (tokens : List Token) (file : FileNode) : Type 0 where
+  pub values : List Rate
+  pub bodies : List Named
+  pub system : Named
+  pub numbered : IsNumbered input tokens file values bodies system
+  pub structured : IsStructured bodies system
+  pub compounds : List Bool
+  pub one_each : length compounds ≡ length bodies
+  pub table : IsTableOf (IsCompound bodies) compounds
+
+abbrev pub outline : {input : List ℕ} {tokens : List Token} {file : FileNode} → Sound input tokens file → Outline
+outline sound = outline_of sound.compounds sound.bodies sound.system
+
+-- the limits that are counted behind the structure
+abbrev pub IsOverLimit : {input : List ℕ} {tokens : List Token} {file : FileNode} → Sound input tokens file → Type 0
+IsOverLimit {input} {tokens} {file} sound = PassesLimit (actions_of (name_at input tokens) file) (outline sound)
+
+-- the file is refused for the cause at the index
+abbrev pub IsRefusedFor : List ℕ → List Token → FileNode → CheckCause → ℕ → Type 0
+IsRefusedFor input tokens file TooMany i =
+    IsStoppedFor input tokens file TooMany i
+    ⊎ ((sound : Sound input tokens file) × IsOverLimit sound × (i ≡ first_at sound.system))
+IsRefusedFor input tokens file MixedChoice i =
+    (sound : Sound input tokens file) × (¬ IsOverLimit sound)
+    × IsFirstMixed (outline sound) sound.bodies (written_leaves sound.compounds sound.bodies sound.system) i
+IsRefusedFor input tokens file cause i = IsStoppedFor input tokens file cause i
+
+-- at the place of the token at the index
+pub record IsRefused (input : List ℕ) (tokens : List Token) (file : FileNode) (cause : CheckCause) (place : Place) : Type 0 where
+  pub i : ℕ
+  pub refused : IsRefusedFor input tokens file cause i
+  pub token : Token
+  pub is_token : slice_get tokens i ≡ Some token
+  pub place_is : place ≡ token.place
+
+-- the model of a file without a fault: its names, its outline, and the activities of its leaves
+pub record IsModelOf (input : List ℕ) (tokens : List Token) (file : FileNode) (m : PepaModel) : Type 0 where
+  pub sound : Sound input tokens file
+  pub within : ¬ IsOverLimit sound
+  pub unmixed : HasNoMixed (outline sound)
+  pub constants_are : m.constants ≡ constants_of (name_at input tokens) file
+  pub actions_are : m.actions ≡ actions_of (name_at input tokens) file
+  pub bodies_are : m.bodies ≡ (outline sound).definitions
+  pub sets_are : m.sets ≡ (outline sound).sets
+  pub leaves_are : m.leaves ≡ (outline sound).leaves
+  pub system_is : m.system ≡ (outline sound).system
+  pub activities_are : AllZip (HasActivities (outline sound)) m.leaves m.activities
+
+-- what may be answered: the model, the first fault, or that memory ran out
+abbrev pub Checks : List ℕ → List Token → FileNode → Result PepaModel CheckEnd → Type 0
+Checks input tokens file (Ok m) = IsModelOf input tokens file m
+Checks input tokens file (Err (Refused cause place)) = IsRefused input tokens file cause place
+Checks input tokens file (Err Memory) = Unit {0}
+
+-- a text has a model: it has tokens, these are a file, and the file has this model
+pub record Reads (input : List ℕ) (m : PepaModel) : Type 0 where
+  pub short : length input ≤ 2 ^ 20
+  pub tokens : List Token
+  pub are_tokens : IsTokens input tokens
+  pub tree : FileTree
+  pub is_tree : IsFileTree (terminals input tokens) tree
+  pub is_model : IsModelOf input tokens (file_node_of tree) m

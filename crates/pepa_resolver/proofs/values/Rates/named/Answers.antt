@@ -1,0 +1,18 @@
+use Rattle.std.proofs.Common.{map, sym, ◌∙◌}
+use Rattle.indexmap.specs.IndexMap.{keys}
+use Rattle.pepa_resolver.specs.Values.{outcome_of, name_of}
+use Rattle.pepa_resolver.proofs.NamedRates.{named_at, named_nowhere}
+use Rattle.pepa_resolver.proofs.values.Rates.named.Goals as goal
+
+pub returns-in-Some : goal.returns-in-Some
+returns-in-Some c =
+    let names = keys c.args.self.now.names.now in
+    let values = c.args.self.now.values.now in
+    c.line_value.ensures
+    ∙ sym (named_at names values (name_of c.args.self.now c.args.at) c.in-Some.line (sym c.position.ensures ∙ c.in-Some.is))
+
+pub returns-in-None : goal.returns-in-None
+returns-in-None c =
+    let names = keys c.args.self.now.names.now in
+    let outcomes = map outcome_of c.args.self.now.values.now in
+    sym (named_nowhere names outcomes (name_of c.args.self.now c.args.at) (sym c.position.ensures ∙ c.in-None.is))

@@ -1,0 +1,46 @@
+-- What the check of the structure answers.
+use Rattle.std.specs.Prelude.{◌≡◌, ℕ, true, cond, Option, Some, None, List, min}
+use Rattle.std.specs.List.{Contains}
+use Rattle.pepa_resolver.specs.declared.structure.Parts.{Parts}
+use Rattle.pepa_resolver.specs.declared.structure.StructureEnd.{StructureEnd}
+use Rattle.pepa_resolver.specs.declared.structure.StructureEnd.TheVariants.{NotSequential, ModelCycle, Unguarded, Memory}
+use Rattle.pepa_resolver.specs.Named.{Named, first_at, sequential_parts}
+use Rattle.pepa_resolver.specs.Structure.{has_system, IsSystem, NotSequentialAt, CompoundEdge, UnguardedEdge, IsFirstCycle, HasNoCycle}
+use Rattle.pepa_resolver.specs.Faults.{HasNone, IsLeast}
+use Rattle.pepa_resolver.specs.Finding.{Finds, least_of}
+use Rattle.pepa_resolver.specs.Graphs.{EdgeOf}
+
+-- a part of one process that has to be sequential and isn't, by its first place
+abbrev pub PartAt : List Named → Named → ℕ → Type 0
+PartAt bodies process i = (part : Named) × Contains (sequential_parts process) part × IsSystem bodies part × (first_at part ≡ i)
+
+-- what is told of one process
+pub record TellsParts (bodies : List Named) (process : Named) (parts : Parts) : Type 0 where
+  pub has_system_is : parts.has_system ≡ has_system process
+  pub sound : parts.is_system ≡ true → IsSystem bodies process
+  pub complete : IsSystem bodies process → parts.is_system ≡ true
+  pub first_is : parts.first ≡ first_at process
+  pub least_is : Finds (PartAt bodies process) parts.least
+
+-- the least index of what isn't sequential in a process that has to be, with its own
+abbrev pub fault_of : Parts → Option ℕ
+fault_of parts = cond parts.is_system (least_of parts.least (Some parts.first)) parts.least
+
+-- the lists have these edges
+pub record HasTheEdges (Edge : ℕ → ℕ → Type 0) (edges : List (List ℕ)) : Type 0 where
+  pub sound : (c d : ℕ) → EdgeOf edges c d → Edge c d
+  pub complete : (c d : ℕ) → Edge c d → EdgeOf edges c d
+
+-- nothing is wrong
+pub record IsStructured (bodies : List Named) (system : Named) : Type 0 where
+  pub sequential : HasNone (NotSequentialAt bodies system)
+  pub compound : HasNoCycle (CompoundEdge bodies)
+  pub guarded : HasNoCycle (UnguardedEdge bodies)
+
+-- what is wrong first
+abbrev pub IsStructureEnd : List Named → Named → StructureEnd → Type 0
+IsStructureEnd bodies system (NotSequential i) = IsLeast (NotSequentialAt bodies system) i
+IsStructureEnd bodies system (ModelCycle c) = HasNone (NotSequentialAt bodies system) × IsFirstCycle (CompoundEdge bodies) c
+IsStructureEnd bodies system (Unguarded c) =
+    HasNone (NotSequentialAt bodies system) × HasNoCycle (CompoundEdge bodies) × IsFirstCycle (UnguardedEdge bodies) c
+IsStructureEnd bodies system Memory = Unit {0}
