@@ -1,5 +1,6 @@
 pub mod Outline
 pub mod Activities
 pub mod Summands
+pub mod Sequences
 pub mod Limits
 pub mod CheckedFiles
