@@ -1,3 +1,4 @@
 -- The lemmas of this crate.
 pub mod SetTables
 pub mod DefinitionLists
+pub mod FirstPlaceNumbers

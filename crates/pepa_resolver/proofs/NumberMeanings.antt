@@ -31,7 +31,7 @@ has_place name names there none =
     let some : position (bytes_eq name) names ≡ Some (position_or_len (bytes_eq name) names) = ap (λ (b : Bool). cond b (Some (position_or_len (bytes_eq name) names)) None) test in
     absurd cc
 
-place_stands : (name : List ℕ) (names : List (List ℕ)) → Contains names name → slice_get names (place_in names name) ≡ Some name
+pub place_stands : (name : List ℕ) (names : List (List ℕ)) → Contains names name → slice_get names (place_in names name) ≡ Some name
 place_stands name names there = by (position (bytes_eq name) names) refl
   where
     by : (o : Option ℕ) → position (bytes_eq name) names ≡ o → slice_get names (unwrap_or o 0) ≡ Some name
@@ -52,7 +52,7 @@ kept_without x name (y ∷ names) apart h = step (bytes_eq x y) refl (contains_c
     step false e (inl k) rest = subst (λ (z : List ℕ). Contains (y ∷ without x names) z) k (contains_here y (without x names))
     step false e (inr there) rest = contains_there y (without x names) name (rest there)
 
-first_there : (name : List ℕ) (names : List (List ℕ)) → Contains names name → Contains (first_places names) name
+pub first_there : (name : List ℕ) (names : List (List ℕ)) → Contains names name → Contains (first_places names) name
 first_there name [] h = absurd (no_element name h)
 first_there name (x ∷ names) h = step (bytes_eq x name) refl (contains_cases x names name h) (first_there name names)
   where

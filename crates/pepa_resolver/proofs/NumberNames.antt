@@ -15,7 +15,7 @@ use Rattle.pepa_resolver.specs.NumberSteps.{with_name, with_names}
 abbrev Names : Type 0
 Names = List (List ℕ)
 
-true_or_false : (b : Bool) → (b ≡ true) ⊎ (b ≡ false)
+pub true_or_false : (b : Bool) → (b ≡ true) ⊎ (b ≡ false)
 true_or_false true = inl refl
 true_or_false false = inr refl
 
@@ -52,16 +52,16 @@ any-without x name (other ∷ names) apart =
           ∙ ap (λ (b : Bool). bytes_eq name other || b) (any-without x name names apart)
     ]
 
-with_name-there : (names : Names) (name : List ℕ) → list_any (bytes_eq name) names ≡ true → with_name names name ≡ names
+pub with_name-there : (names : Names) (name : List ℕ) → list_any (bytes_eq name) names ≡ true → with_name names name ≡ names
 with_name-there names name e = ap (λ (b : Bool). if b then names else (names ++ name ∷ [])) e
 
-with_name-new : (names : Names) (name : List ℕ) → list_any (bytes_eq name) names ≡ false → with_name names name ≡ names ++ name ∷ []
+pub with_name-new : (names : Names) (name : List ℕ) → list_any (bytes_eq name) names ≡ false → with_name names name ≡ names ++ name ∷ []
 with_name-new names name e = ap (λ (b : Bool). if b then names else (names ++ name ∷ [])) e
 
 without-push : (x name : List ℕ) (names : Names) (b : Bool) → bytes_eq x name ≡ b → without x (names ++ name ∷ []) ≡ without x names ++ (cond (not b) (name ∷ []) [])
 without-push x name names b e = filter-append (λ (other : List ℕ). not (bytes_eq x other)) names (name ∷ []) ∙ ap (λ (c : Bool). without x names ++ cond (not c) (name ∷ []) []) e
 
-append-nothing : (names : Names) → names ++ [] ≡ names
+pub append-nothing : (names : Names) → names ++ [] ≡ names
 append-nothing [] = refl
 append-nothing (name ∷ names) = ap (λ (k : Names). name ∷ k) (append-nothing names)
 
