@@ -204,7 +204,7 @@ next_behind p (x ∷ xs) name ys h is = step (p x) (list_any p xs) (position_or_
     step true rest n m h k = absurd cc
     step false rest n m h k = let l = k h is in omega arith
 
-placed : (names : Names) (name : List ℕ) (n : ℕ) → position_or_len (bytes_eq name) names ≡ n → n < length names → place_in names name ≡ n
+pub placed : (names : Names) (name : List ℕ) (n : ℕ) → position_or_len (bytes_eq name) names ≡ n → n < length names → place_in names name ≡ n
 placed names name n e lt =
     let test : nat_lt (position_or_len (bytes_eq name) names) (length names) ≡ true = let below : position_or_len (bytes_eq name) names < length names = omega arith in grind (arith, nat_tests) in
     ap (λ (b : Bool). unwrap_or (cond b (Some (position_or_len (bytes_eq name) names)) None) 0) test ∙ e

@@ -2,3 +2,4 @@
 pub mod SetTables
 pub mod DefinitionLists
 pub mod FirstPlaceNumbers
+pub mod ModelNumbers
