@@ -3,3 +3,5 @@ pub mod SetTables
 pub mod DefinitionLists
 pub mod FirstPlaceNumbers
 pub mod ModelNumbers
+pub mod ModelNames
+pub mod ModelSets
