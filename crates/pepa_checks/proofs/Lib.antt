@@ -1,3 +1,5 @@
 -- The lemmas of this crate.
 pub mod DefinitionsByNumber
 pub mod LeafProcesses
+pub mod TextHeights
+pub mod OneTree
