@@ -3,3 +3,5 @@ pub mod DefinitionsByNumber
 pub mod LeafProcesses
 pub mod TextHeights
 pub mod OneTree
+pub mod PlainProcesses
+pub mod AlongOrders
