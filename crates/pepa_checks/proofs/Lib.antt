@@ -5,3 +5,5 @@ pub mod TextHeights
 pub mod OneTree
 pub mod PlainProcesses
 pub mod AlongOrders
+pub mod Openings
+pub mod Expansions
