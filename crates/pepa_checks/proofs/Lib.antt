@@ -7,3 +7,4 @@ pub mod PlainProcesses
 pub mod AlongOrders
 pub mod Openings
 pub mod Expansions
+pub mod BuiltFiles
