@@ -9,6 +9,10 @@ use Rattle.pepa_resolver.proofs.Findings.{no_element}
 abbrev pub step : ℕ
 step = 1025
 
+-- that is so much for 1,024 numbers
+abbrev pub most_steps : ℕ
+most_steps = 1024 * step
+
 module _ (Edge : ℕ → ℕ → Type 0) (count : ℕ) (order : List ℕ) (is : IsOrder Edge count order) (Holds : ℕ → ℕ → Type 0)
     (more : (k m c : ℕ) → k ≤ m → Holds k c → Holds m c) (next : (k c : ℕ) → ((d : ℕ) → Edge c d → Holds k d) → Holds (k + step) c) where
   along : (before rest : List ℕ) (k : ℕ) → order ≡ before ++ rest → ((d : ℕ) → Contains before d → Holds k d) → (d : ℕ) → Contains order d → Holds (k + length rest * step) d

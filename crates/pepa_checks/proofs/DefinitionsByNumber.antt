@@ -1,7 +1,7 @@
 -- What the constants of an outline stand for, by number.
-use Rattle.std.proofs.Common.{◌≡◌, ℕ, zero, suc, ◌<◌, Bool, true, false, List, [], ◌∷◌, length, Some, slice_get, refl, sym, ap, ◌∙◌, arith}
-use Rattle.std.proofs.lemmas.Option.{same_Some}
-use Rattle.pepa_model.specs.Expression.{Expression, Shape, Definition, Sequentially, Compoundly, Defines, IsCompound}
+use Rattle.std.proofs.Common.{◌≡◌, ℕ, zero, suc, ◌<◌, Bool, true, false, List, [], ◌∷◌, length, get_or, Some, slice_get, refl, sym, ap, ◌∙◌, arith}
+use Rattle.std.proofs.lemmas.Option.{same_Some, slice_get-get_or}
+use Rattle.pepa_model.specs.Expression.{Expression, Const, Shape, Definition, Sequentially, Compoundly, Defines, IsCompound}
 use Rattle.pepa_resolver.specs.Named.{Named}
 use Rattle.pepa_checks.specs.Outline.{is_compound, expression_in, shape_in, definition_in, definitions_in}
 
@@ -40,10 +40,15 @@ module _ (compounds : List Bool) (sets : List (List ℕ)) where
       let rest = defined_by flags bodies c definition e in
       record { flag = rest.flag; body = rest.body; flag_at = rest.flag_at; body_at = rest.body_at; is = rest.is }
 
-  -- ---- sequential and compound constants
+  -- each constant has one
+  pub definition_within : (flags : List Bool) (bodies : List Named) (c : ℕ) → length flags ≡ length bodies → c < length bodies → (definition : Definition) × (slice_get (definitions_in compounds sets flags bodies) c ≡ Some definition) × IsDefinedBy flags bodies c definition
+  definition_within flags bodies c e within =
+      let d = Sequentially (Const 0) in
+      let count = length-definitions flags bodies e in
+      let at = slice_get-get_or (definitions_in compounds sets flags bodies) c d (omega arith) in
+      (get_or (definitions_in compounds sets flags bodies) c d, at, defined_by flags bodies c (get_or (definitions_in compounds sets flags bodies) c d) at)
 
-  abbrev definitions : List Bool → List Named → List Definition
-  definitions flags bodies = definitions_in compounds sets flags bodies
+  -- ---- sequential and compound constants
 
   -- a sequential constant stands for its body's expression
   pub defines_at : (flags : List Bool) (bodies : List Named) (c : ℕ) (body : Named) → slice_get flags c ≡ Some false → slice_get bodies c ≡ Some body → Defines (definitions_in compounds sets flags bodies) c (expression_in body)

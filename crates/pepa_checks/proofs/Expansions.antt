@@ -15,7 +15,7 @@ use Rattle.pepa_checks.specs.Heights.{height_in, most_height}
 use Rattle.pepa_checks.specs.Built.{IsBuilt}
 use Rattle.pepa_checks.proofs.DefinitionsByNumber.{compound_at, compound_by, flag_true}
 use Rattle.pepa_checks.proofs.PlainProcesses.{body_among}
-use Rattle.pepa_checks.proofs.AlongOrders.{step, along_order}
+use Rattle.pepa_checks.proofs.AlongOrders.{step, most_steps, along_order}
 
 -- the system expands into a tree that is no higher
 pub record ExpandsWithin (definitions : List Definition) (most : ℕ) (shape : Shape) : Type 0 where
@@ -74,19 +74,19 @@ module _ (sets : List (List ℕ)) (compounds : List Bool) (bodies : List Named) 
         low = omega (arith, inner.low);
       }
 
-  pub compound_expands : (c : ℕ) → slice_get compounds c ≡ Some true → ExpandsWithin (definitions_in compounds sets compounds bodies) 1049600 (ConstShape c)
+  pub compound_expands : (c : ℕ) → slice_get compounds c ≡ Some true → ExpandsWithin (definitions_in compounds sets compounds bodies) most_steps (ConstShape c)
   compound_expands c set =
       let count : length compounds ≡ length bodies = built.one_each in
       let few : length bodies ≤ 1024 = built.few in
       let inside : c < length compounds = slice_get_within compounds c true set in
-      expands_higher definitions (length bodies * step) 1049600 (ConstShape c) (omega arith)
+      expands_higher definitions (length bodies * step) most_steps (ConstShape c) (omega arith)
       (along_order (CompoundEdge bodies) (length bodies) order ordered Holds
       (λ k m d le holds set_too. expands_higher definitions k m (ConstShape d) le (holds set_too)) next c (omega arith) set)
 
   -- a process of the file, as a system, expands
   pub process_expands : (process : Named) → height_in process ≤ most_height → (tree : Expanded) × Expands (definitions_in compounds sets compounds bodies) (shape_in compounds sets process) tree × (height_of tree ≤ 2 ^ 21)
   process_expands process low =
-      let t = shape_expands definitions compounds sets 1049600 process (λ d h set. compound_expands d set) in
+      let t = shape_expands definitions compounds sets most_steps process (λ d h set. compound_expands d set) in
       (t.tree, t.expands, omega (arith, t.low))
 
   -- the system expands, not too high

@@ -1,6 +1,7 @@
 -- The lemmas of this crate.
 pub mod DefinitionsByNumber
 pub mod LeafProcesses
+pub mod LeafNumbers
 pub mod TextHeights
 pub mod OneTree
 pub mod PlainProcesses

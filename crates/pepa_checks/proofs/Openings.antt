@@ -15,7 +15,7 @@ use Rattle.pepa_checks.specs.Built.{leaf_processes, IsBuilt}
 use Rattle.pepa_checks.proofs.DefinitionsByNumber.{defines_at}
 use Rattle.pepa_checks.proofs.LeafProcesses.{leaf_written}
 use Rattle.pepa_checks.proofs.PlainProcesses.{IsPlain, IsLeafProcess, not_compound, sequential_body, leaf_process}
-use Rattle.pepa_checks.proofs.AlongOrders.{step, along_order}
+use Rattle.pepa_checks.proofs.AlongOrders.{step, most_steps, along_order}
 
 -- the expression opens into a tree that is no higher
 pub record OpensWithin (definitions : List Definition) (most : ℕ) (e : Expression) : Type 0 where
@@ -69,19 +69,19 @@ module _ (sets : List (List ℕ)) (compounds : List Bool) (bodies : List Named) 
         low = omega (arith, inner.low, fine.1);
       }
 
-  pub constant_opens : (c : ℕ) → slice_get compounds c ≡ Some false → OpensWithin (definitions_in compounds sets compounds bodies) 1049600 (Const c)
+  pub constant_opens : (c : ℕ) → slice_get compounds c ≡ Some false → OpensWithin (definitions_in compounds sets compounds bodies) most_steps (Const c)
   constant_opens c unset =
       let count : length compounds ≡ length bodies = built.one_each in
       let few : length bodies ≤ 1024 = built.few in
       let inside : c < length compounds = slice_get_within compounds c false unset in
-      opens_higher definitions (length bodies * step) 1049600 (Const c) (omega arith)
+      opens_higher definitions (length bodies * step) most_steps (Const c) (omega arith)
       (along_order (UnguardedEdge bodies) (length bodies) order ordered Holds
       (λ k m d le holds unset_too. opens_higher definitions k m (Const d) le (holds unset_too)) next c (omega arith) unset)
 
   -- a process whose expression may be a leaf opens
   pub process_opens : (process : Named) → IsLeafProcess compounds process → (opened : Opened) × Opens (definitions_in compounds sets compounds bodies) (expression_in process) opened × (height opened ≤ 2 ^ 21)
   process_opens process fine =
-      let o = plain_opens definitions compounds 1049600 process fine.0 (λ d h unset. constant_opens d unset) in
+      let o = plain_opens definitions compounds most_steps process fine.0 (λ d h unset. constant_opens d unset) in
       (o.opened, o.opens, omega (arith, o.low, fine.1))
 
   -- each leaf opens, not too high
