@@ -1,5 +1,5 @@
 -- The processes of a file without a fault up to its structure.
-use Rattle.std.proofs.Common.{◌≡◌, ℕ, ◌<◌, ◌≤◌, Bool, List, [], ◌∷◌, ◌++◌, map, length, get_or, Some, slice_get, inl, inr, refl, sym, ap, subst, ◌∙◌, arith}
+use Rattle.std.proofs.Common.{◌≡◌, ℕ, ◌<◌, ◌≤◌, Bool, List, [], ◌∷◌, ◌++◌, map, length, get_or, inl, inr, refl, sym, ap, subst, ◌∙◌, arith}
 use Rattle.std.specs.List.{Contains}
 use Rattle.std.proofs.lemmas.Option.{slice_get-get_or}
 use Rattle.std.proofs.lemmas.List.{length-map}
@@ -16,11 +16,12 @@ use Rattle.pepa_resolver.specs.Named.{Named, Naming, named, constants_named}
 use Rattle.pepa_resolver.specs.NamedTypes.{HasConstantsBelow}
 use Rattle.pepa_resolver.specs.Numbers.{naming_of, named_bodies, named_system}
 use Rattle.pepa_resolver.specs.Graphs.{AreBelow, IsTableOf}
-use Rattle.pepa_resolver.specs.Structure.{IsCompound}
+use Rattle.pepa_resolver.specs.Structure.{IsCompound, NotSequentialAt}
 use Rattle.pepa_resolver.specs.StructureAnswers.{IsStructured}
 use Rattle.pepa_resolver.specs.StructuredFiles.{IsNumbered}
 use Rattle.pepa_resolver.proofs.Findings.{one_element, contains_one, contains_map_from, contains_map_to}
 use Rattle.pepa_resolver.proofs.NumberedFile.{in_range}
+use Rattle.pepa_checks.specs.Heights.{height_in, most_height, AreLow}
 use Rattle.pepa_checks.specs.Built.{IsBuilt}
 use Rattle.pepa_checks.specs.CheckedFiles.{Sound}
 use Rattle.pepa_checks.proofs.TextHeights.{numbered_low}
@@ -74,3 +75,20 @@ module _ (input : List ℕ) (tokens : List Token) (tree : FileTree) (values : Li
 pub sound_built : (input : List ℕ) (tokens : List Token) (tree : FileTree) (sound : Sound input tokens (file_node_of tree)) → IsFileTree (terminals input tokens) tree → IsBuilt sound.compounds sound.bodies sound.system
 sound_built input tokens tree sound is =
     is_built input tokens tree sound.values sound.bodies sound.system sound.numbered sound.compounds is sound.structured sound.one_each sound.table
+
+-- the same, from what holds of the bodies and of the system
+pub built_from : (compounds : List Bool) (bodies : List Named) (system : Named) → length compounds ≡ length bodies → IsTableOf (IsCompound bodies) compounds → HasNone (NotSequentialAt bodies system) → HasConstantsBelow (length bodies) bodies → AreBelow (length bodies) (constants_named system) → length bodies ≤ 1024 → AreLow bodies → height_in system ≤ most_height → IsBuilt compounds bodies system
+built_from compounds bodies system one_each table sequential known_bodies known_system few low_bodies low_system = record {
+  one_each = one_each;
+  table = table;
+  sequential = sequential;
+  known = λ process among. elim (Contains-append_cases bodies (system ∷ []) process among) [
+    | inl h ↦ known_bodies process h
+    | inr h ↦ subst (λ (p : Named). AreBelow (length bodies) (constants_named p)) (one_element system process h) known_system
+  ];
+  few = few;
+  low = λ process among. elim (Contains-append_cases bodies (system ∷ []) process among) [
+    | inl h ↦ low_bodies process h
+    | inr h ↦ subst (λ (p : Named). height_in p ≤ most_height) (one_element system process h) low_system
+  ];
+}

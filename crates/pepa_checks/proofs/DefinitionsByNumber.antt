@@ -1,5 +1,5 @@
 -- What the constants of an outline stand for, by number.
-use Rattle.std.proofs.Common.{◌≡◌, ℕ, zero, suc, ◌<◌, Bool, true, false, List, [], ◌∷◌, length, get_or, Some, slice_get, refl, sym, ap, ◌∙◌, arith}
+use Rattle.std.proofs.Common.{◌≡◌, ℕ, zero, suc, ◌<◌, Bool, true, false, List, [], ◌∷◌, length, get_or, Some, slice_get, refl, ap, ◌∙◌, arith}
 use Rattle.std.proofs.lemmas.Option.{same_Some, slice_get-get_or}
 use Rattle.pepa_model.specs.Expression.{Expression, Const, Shape, Definition, Sequentially, Compoundly, Defines, IsCompound}
 use Rattle.pepa_resolver.specs.Named.{Named}

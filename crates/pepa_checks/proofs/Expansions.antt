@@ -1,16 +1,16 @@
 -- The system of an outline, and each compound constant's, expands into a tree, not too high.
-use Rattle.std.proofs.Common.{◌≡◌, ℕ, ◌+◌, ◌*◌, ◌^◌, ◌<◌, ◌≤◌, max, Bool, true, false, if◌then◌else◌, List, [], ◌∷◌, ◌++◌, length, get_or, Some, slice_get, refl, sym, ap, subst, ◌∙◌, arith}
+use Rattle.std.proofs.Common.{◌≡◌, ℕ, ◌+◌, ◌*◌, ◌^◌, ◌<◌, ◌≤◌, Bool, true, false, if◌then◌else◌, List, [], ◌∷◌, length, get_or, Some, slice_get, refl, subst, arith}
 use Rattle.std.specs.List.{Contains}
 use Rattle.std.proofs.lemmas.Option.{slice_get_within, slice_get-get_or}
 use Rattle.std.proofs.lemmas.List.Elements.{Contains-append_left, Contains-append_right, Contains-push}
-use Rattle.pepa_model.specs.Expression.{Expression, Const, Shape, LeafShape, ConstShape, CoopShape, HideShape, Definition, IsCompound}
+use Rattle.pepa_model.specs.Expression.{Const, Shape, LeafShape, ConstShape, Definition, IsCompound}
 use Rattle.pepa_model.specs.Expanded.{Expanded, LeafTree, ConstTree, CoopTree, HideTree, Expands, height_of}
 use Rattle.pepa_resolver.specs.Named.{Named, NamedConstant, NamedPrefix, NamedChoice, NamedCoop, NamedHide, constants_named}
 use Rattle.pepa_resolver.specs.Structure.{CompoundEdge}
 use Rattle.pepa_resolver.specs.Graphs.{IsOrder}
 use Rattle.pepa_resolver.specs.Numbers.{place_in}
 use Rattle.pepa_resolver.proofs.Findings.{contains_here}
-use Rattle.pepa_checks.specs.Outline.{Outline, is_compound, expression_in, shape_in, definitions_in, outline_with}
+use Rattle.pepa_checks.specs.Outline.{is_compound, expression_in, shape_in, definitions_in, outline_with}
 use Rattle.pepa_checks.specs.Heights.{height_in, most_height}
 use Rattle.pepa_checks.specs.Built.{IsBuilt}
 use Rattle.pepa_checks.proofs.DefinitionsByNumber.{compound_at, compound_by, flag_true}

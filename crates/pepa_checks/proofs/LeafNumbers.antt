@@ -1,5 +1,5 @@
 -- Each process that a leaf may be written as has its leaf's number.
-use Rattle.std.proofs.Common.{◌≡◌, ℕ, suc, ◌+◌, ◌<◌, ◌==◌, Bool, true, false, cond, not, ◌&&◌, List, [], ◌∷◌, ◌++◌, map, filter, length, get_or, Option, Some, None, position, unwrap_or, slice_get, nat_lt, ◌⊎◌, inl, inr, refl, sym, ap, ◌∙◌, subst, arith}
+use Rattle.std.proofs.Common.{◌≡◌, ℕ, suc, ◌+◌, ◌<◌, ◌==◌, Bool, true, false, cond, not, ◌&&◌, List, [], ◌∷◌, map, length, get_or, Option, Some, None, position, unwrap_or, slice_get, nat_lt, ◌⊎◌, inl, inr, refl, sym, ap, ◌∙◌, subst, arith}
 use Rattle.std.specs.Bool.{Decides}
 use Rattle.std.specs.List.{Contains, position_or_len}
 use Rattle.std.proofs.lemmas.Bool.{false≢true}
@@ -13,7 +13,7 @@ use Rattle.pepa_model.specs.Expression.{Expression, Const, Prefixed, Chosen}
 use Rattle.pepa_model.specs.Leaves.{without, each_once, place_of, same_rate, same_expression}
 use Rattle.pepa_resolver.specs.Named.{Named}
 use Rattle.pepa_resolver.proofs.Findings.{no_element, contains_here, contains_there, contains_cases, contains_map_to}
-use Rattle.pepa_checks.specs.Outline.{expression_in, Outline, outline_with}
+use Rattle.pepa_checks.specs.Outline.{expression_in, outline_with}
 use Rattle.pepa_checks.specs.Activities.{leaf_number}
 use Rattle.pepa_checks.specs.Built.{leaf_processes}
 use Rattle.pepa_checks.proofs.LeafProcesses.{leaves_are}

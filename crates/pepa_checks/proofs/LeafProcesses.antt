@@ -1,13 +1,13 @@
 -- The leaves of an outline, and the processes that they are written as.
-use Rattle.std.proofs.Common.{◌≡◌, ℕ, zero, suc, Bool, true, false, cond, if◌then◌else◌, List, [], ◌∷◌, ◌++◌, map, filter, flat_map, length, not, Some, slice_get, inl, inr, refl, sym, ap, subst, ◌∙◌, arith}
+use Rattle.std.proofs.Common.{◌≡◌, ℕ, suc, Bool, true, false, cond, if◌then◌else◌, List, [], ◌∷◌, ◌++◌, map, filter, flat_map, length, not, Some, slice_get, inl, inr, refl, sym, ap, subst, ◌∙◌, arith}
 use Rattle.std.specs.List.{Contains}
 use Rattle.std.proofs.lemmas.List.{map-append}
-use Rattle.pepa_model.specs.Expression.{Expression, Const, Shape, ConstShape, LeafShape, Definition}
-use Rattle.pepa_model.specs.Leaves.{without, each_once, same_expression, followers, components, components_defined, sequential_constants, leaves_of}
+use Rattle.pepa_model.specs.Expression.{Expression, Const, ConstShape, LeafShape}
+use Rattle.pepa_model.specs.Leaves.{without, each_once, same_expression, followers, components, components_defined, sequential_constants}
 use Rattle.pepa_resolver.specs.Named.{Named, NamedConstant, NamedPrefix, NamedChoice, NamedCoop, NamedHide}
 use Rattle.pepa_resolver.proofs.Findings.{contains_here, contains_there, contains_cases, contains_map_from}
 use Rattle.pepa_resolver.proofs.Bodies.{contains_from_get}
-use Rattle.pepa_checks.specs.Outline.{is_compound, expression_in, shape_in, definition_in, definitions_in, Outline, outline_with}
+use Rattle.pepa_checks.specs.Outline.{is_compound, expression_in, shape_in, definition_in, definitions_in, outline_with}
 use Rattle.pepa_checks.specs.Activities.{written_followers, written_components, written_in, written_leaves}
 use Rattle.pepa_checks.specs.Built.{constant_names, leaf_processes}
 
@@ -65,11 +65,11 @@ leaves_are sets compounds bodies system e =
     let definitions = definitions_in compounds sets compounds bodies in
     let shape = shape_in compounds sets system in
     ap (each_once same_expression) (
-      ap (λ (l : List Expression). l ++ (flat_map components_defined definitions ++ components shape)) (constants_written compounds sets 0 compounds bodies e)
-      ∙ ap (λ (l : List Expression). expressions (constant_names 0 compounds) ++ (l ++ components shape)) (bodies_written compounds sets compounds bodies)
-      ∙ ap (λ (l : List Expression). expressions (constant_names 0 compounds) ++ (expressions (written_in compounds compounds bodies) ++ l)) (components_written compounds sets system)
-      ∙ ap (λ (l : List Expression). expressions (constant_names 0 compounds) ++ l) (sym (map-append expression_in (written_in compounds compounds bodies) (written_components compounds system)))
-      ∙ sym (map-append expression_in (constant_names 0 compounds) (written_leaves compounds bodies system))
+    ap (λ (l : List Expression). l ++ (flat_map components_defined definitions ++ components shape)) (constants_written compounds sets 0 compounds bodies e)
+    ∙ ap (λ (l : List Expression). expressions (constant_names 0 compounds) ++ (l ++ components shape)) (bodies_written compounds sets compounds bodies)
+    ∙ ap (λ (l : List Expression). expressions (constant_names 0 compounds) ++ (expressions (written_in compounds compounds bodies) ++ l)) (components_written compounds sets system)
+    ∙ ap (λ (l : List Expression). expressions (constant_names 0 compounds) ++ l) (sym (map-append expression_in (written_in compounds compounds bodies) (written_components compounds system)))
+    ∙ sym (map-append expression_in (constant_names 0 compounds) (written_leaves compounds bodies system))
     )
 
 -- ---- each thing once

@@ -1,6 +1,6 @@
 -- A sequential component opens in one way, and a system expands in one way.
 use Rattle.std.proofs.Common.{◌≡◌, ℕ, List, refl, sym, ap, subst, ◌∙◌}
-use Rattle.pepa_model.specs.Expression.{Expression, Shape, LeafShape, ConstShape, CoopShape, HideShape, Definition, IsCompound}
+use Rattle.pepa_model.specs.Expression.{Expression, Shape, Definition, IsCompound}
 use Rattle.pepa_model.specs.Opened.{Opened, Opens}
 use Rattle.pepa_model.specs.Expanded.{Expanded, LeafTree, ConstTree, CoopTree, HideTree, Expands}
 use Rattle.pepa_model.proofs.OneList as lists

@@ -1,17 +1,17 @@
 -- Each leaf of an outline opens into a tree, not too high.
-use Rattle.std.proofs.Common.{◌≡◌, ℕ, ◌+◌, ◌*◌, ◌^◌, ◌<◌, ◌≤◌, max, Bool, true, false, List, [], ◌∷◌, ◌++◌, length, get_or, Some, slice_get, refl, sym, ap, subst, ◌∙◌, arith}
+use Rattle.std.proofs.Common.{◌≡◌, ℕ, ◌+◌, ◌*◌, ◌^◌, ◌<◌, ◌≤◌, Bool, false, List, [], length, get_or, Some, slice_get, refl, subst, arith}
 use Rattle.std.specs.List.{Contains}
 use Rattle.std.proofs.lemmas.Option.{slice_get_within, slice_get-get_or}
 use Rattle.std.proofs.lemmas.List.Elements.{Contains-append_left, Contains-append_right}
-use Rattle.pepa_model.specs.Expression.{Expression, Const, Prefixed, Chosen, Definition}
+use Rattle.pepa_model.specs.Expression.{Expression, Const, Definition}
 use Rattle.pepa_model.specs.Opened.{Opened, OpenPrefix, OpenChoice, OpenConst, Opens, height}
 use Rattle.pepa_resolver.specs.Named.{Named, NamedConstant, NamedPrefix, NamedChoice, NamedCoop, NamedHide, unguarded}
 use Rattle.pepa_resolver.specs.Structure.{UnguardedEdge}
 use Rattle.pepa_resolver.specs.Graphs.{IsOrder}
 use Rattle.pepa_resolver.proofs.Findings.{contains_here}
-use Rattle.pepa_checks.specs.Outline.{Outline, expression_in, definitions_in, outline_with}
-use Rattle.pepa_checks.specs.Heights.{height_in, most_height}
-use Rattle.pepa_checks.specs.Built.{leaf_processes, IsBuilt}
+use Rattle.pepa_checks.specs.Outline.{expression_in, definitions_in, outline_with}
+use Rattle.pepa_checks.specs.Heights.{height_in}
+use Rattle.pepa_checks.specs.Built.{IsBuilt}
 use Rattle.pepa_checks.proofs.DefinitionsByNumber.{defines_at}
 use Rattle.pepa_checks.proofs.LeafProcesses.{leaf_written}
 use Rattle.pepa_checks.proofs.PlainProcesses.{IsPlain, IsLeafProcess, not_compound, sequential_body, leaf_process}

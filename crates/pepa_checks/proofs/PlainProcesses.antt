@@ -1,7 +1,6 @@
 -- The processes of leaves are sequential, and so are the bodies of sequential constants.
-use Rattle.std.proofs.Common.{◌≡◌, ℕ, zero, suc, ◌+◌, ◌<◌, ◌≤◌, Bool, true, false, if◌then◌else◌, List, [], ◌∷◌, ◌++◌, length, Some, slice_get, inl, inr, refl, sym, ap, subst, ◌∙◌, arith}
+use Rattle.std.proofs.Common.{◌≡◌, ℕ, suc, ◌+◌, ◌<◌, ◌≤◌, Bool, true, false, if◌then◌else◌, List, [], ◌∷◌, ◌++◌, length, Some, slice_get, inl, inr, refl, sym, ap, subst, ◌∙◌, arith}
 use Rattle.std.specs.List.{Contains}
-use Rattle.std.proofs.lemmas.Option.{slice_get_within}
 use Rattle.std.proofs.lemmas.List.Elements.{Contains-append_left, Contains-append_right, Contains-append_cases, Contains-push}
 use Rattle.pepa_resolver.specs.Named.{Named, NamedConstant, NamedPrefix, NamedChoice, NamedCoop, NamedHide, constants_named, sequential_parts, first_at}
 use Rattle.pepa_resolver.specs.Structure.{IsCompound, IsSystem}
@@ -40,36 +39,28 @@ module _ (compounds : List Bool) (bodies : List Named) (one_each : length compou
   abbrev AreSequential : Named → Type 0
   AreSequential process = (part : Named) → Contains (sequential_parts process) part → ¬ IsSystem bodies part
 
-  plain : (process : Named) → ¬ IsSystem bodies process → AreSequential process → AreBelow (length bodies) (constants_named process) → IsPlain compounds process
-  plain (NamedConstant at c) sequential parts below =
-      let within : c < length bodies = below c (contains_here c []) in
-      flag_false compounds c (omega arith) (λ hit. sequential (inr (at, c, refl, table.sound c hit)))
-  plain (NamedPrefix at action rate next) sequential parts below =
-      plain next (parts next (contains_here next (sequential_parts next))) (λ part h. parts part (contains_there next (sequential_parts next) part h)) below
-  plain (NamedChoice left right) sequential parts below =
-      let inner = sequential_parts left ++ sequential_parts right in (
-        plain left (parts left (contains_here left (right ∷ inner)))
-        (λ part h. parts part (contains_there left (right ∷ inner) part (contains_there right inner part (Contains-append_left (sequential_parts left) (sequential_parts right) part h))))
-        (λ d h. below d (Contains-append_left (constants_named left) (constants_named right) d h)),
-        plain right (parts right (contains_there left (right ∷ inner) right (contains_here right inner)))
-        (λ part h. parts part (contains_there left (right ∷ inner) part (contains_there right inner part (Contains-append_right (sequential_parts left) (sequential_parts right) part h))))
-        (λ d h. below d (Contains-append_right (constants_named left) (constants_named right) d h)),
-      )
-  plain (NamedCoop left right set) sequential parts below = absurd (sequential (inl refl))
-  plain (NamedHide inner set) sequential parts below = absurd (sequential (inl refl))
+  -- such a process is sequential, unless it is a system
+  plain : (process : Named) → ¬ IsSystem bodies process → HasPlainParts compounds process → IsPlain compounds process
+  plain (NamedConstant at c) sequential parts = flag_false compounds c parts (λ hit. sequential (inr (at, c, refl, table.sound c hit)))
+  plain (NamedPrefix at action rate next) sequential parts = parts
+  plain (NamedChoice left right) sequential parts = parts
+  plain (NamedCoop left right set) sequential parts = absurd (sequential (inl refl))
+  plain (NamedHide inner set) sequential parts = absurd (sequential (inl refl))
 
   plain_parts : (process : Named) → AreSequential process → AreBelow (length bodies) (constants_named process) → HasPlainParts compounds process
   plain_parts (NamedConstant at c) parts below = let within : c < length bodies = below c (contains_here c []) in omega arith
   plain_parts (NamedPrefix at action rate next) parts below =
-      plain next (parts next (contains_here next (sequential_parts next))) (λ part h. parts part (contains_there next (sequential_parts next) part h)) below
+      plain next (parts next (contains_here next (sequential_parts next)))
+      (plain_parts next (λ part h. parts part (contains_there next (sequential_parts next) part h)) below)
   plain_parts (NamedChoice left right) parts below =
-      let inner = sequential_parts left ++ sequential_parts right in (
+      let inner = sequential_parts left ++ sequential_parts right in
+      let among : (part : Named) → Contains inner part → Contains (left ∷ right ∷ inner) part = λ part h. contains_there left (right ∷ inner) part (contains_there right inner part h) in (
         plain left (parts left (contains_here left (right ∷ inner)))
-        (λ part h. parts part (contains_there left (right ∷ inner) part (contains_there right inner part (Contains-append_left (sequential_parts left) (sequential_parts right) part h))))
-        (λ d h. below d (Contains-append_left (constants_named left) (constants_named right) d h)),
+            (plain_parts left (λ part h. parts part (among part (Contains-append_left (sequential_parts left) (sequential_parts right) part h)))
+            (λ d h. below d (Contains-append_left (constants_named left) (constants_named right) d h))),
         plain right (parts right (contains_there left (right ∷ inner) right (contains_here right inner)))
-        (λ part h. parts part (contains_there left (right ∷ inner) part (contains_there right inner part (Contains-append_right (sequential_parts left) (sequential_parts right) part h))))
-        (λ d h. below d (Contains-append_right (constants_named left) (constants_named right) d h)),
+            (plain_parts right (λ part h. parts part (among part (Contains-append_right (sequential_parts left) (sequential_parts right) part h)))
+            (λ d h. below d (Contains-append_right (constants_named left) (constants_named right) d h))),
       )
   plain_parts (NamedCoop left right set) parts below = (
     plain_parts left (λ part h. parts part (Contains-append_left (sequential_parts left) (sequential_parts right) part h)) (λ d h. below d (Contains-append_left (constants_named left) (constants_named right) d h)),
@@ -81,14 +72,10 @@ module _ (compounds : List Bool) (bodies : List Named) (one_each : length compou
   pub not_compound : (c : ℕ) → slice_get compounds c ≡ Some false → ¬ IsCompound bodies c
   not_compound c unset compound = let set : slice_get compounds c ≡ Some true = table.complete c compound in cc
 
-  -- the body of a sequential constant is sequential
-  body_plain : (c : ℕ) (body : Named) → slice_get compounds c ≡ Some false → slice_get bodies c ≡ Some body → HasPlainParts compounds body → IsPlain compounds body
-  body_plain c (NamedConstant at d) unset is parts =
-      flag_false compounds d parts (λ hit. let behind = table.sound d hit in not_compound c unset (suc behind.0, (at, d, is, behind.1)))
-  body_plain c (NamedPrefix at action rate next) unset is parts = parts
-  body_plain c (NamedChoice left right) unset is parts = parts
-  body_plain c (NamedCoop left right set) unset is parts = absurd (not_compound c unset (0, (NamedCoop left right set, is, refl)))
-  body_plain c (NamedHide inner set) unset is parts = absurd (not_compound c unset (0, (NamedHide inner set, is, refl)))
+  -- so its body is no system
+  no_system : (c : ℕ) (body : Named) → slice_get compounds c ≡ Some false → slice_get bodies c ≡ Some body → ¬ IsSystem bodies body
+  no_system c body unset is (inl operator) = not_compound c unset (0, (body, is, operator))
+  no_system c body unset is (inr (at, d, alone, compound)) = not_compound c unset (suc compound.0, (at, d, is ∙ ap (λ (p : Named). Some p) alone, compound.1))
 
 -- ---- the processes of leaves
 
@@ -180,7 +167,7 @@ module _ (compounds : List Bool) (bodies : List Named) (system : Named) (built :
   pub sequential_body : (c : ℕ) (body : Named) → slice_get compounds c ≡ Some false → slice_get bodies c ≡ Some body → IsLeafProcess compounds body
   sequential_body c body unset is =
       let among = body_among c body is in
-      (body_plain compounds bodies built.one_each built.table c body unset is (process_parts body among), built.low body among)
+      (plain compounds bodies built.one_each built.table body (no_system compounds bodies built.one_each built.table c body unset is) (process_parts body among), built.low body among)
 
   -- so are the processes of leaves
   pub leaf_process : (process : Named) → Contains (leaf_processes compounds bodies system) process → IsLeafProcess compounds process
