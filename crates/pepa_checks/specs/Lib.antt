@@ -4,3 +4,5 @@ pub mod Summands
 pub mod Sequences
 pub mod Limits
 pub mod CheckedFiles
+pub mod Heights
+pub mod Built
