@@ -15,3 +15,4 @@ pub mod AlongOrders
 pub mod Openings
 pub mod Expansions
 pub mod BuiltFiles
+pub mod LeafClosure
