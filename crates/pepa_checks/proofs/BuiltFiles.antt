@@ -36,7 +36,7 @@ few_lines file none = by (length (process_ats file.processes)) refl
     by n e = omega (arith, past, length-map file.processes (λ (line : ProcessLineNode). line.line_at))
 
 -- a process with numbers is one of the file's
-named_from : (naming : Naming) (file : FileNode) (process : Named) → Contains (named_bodies naming file ++ named_system naming file ∷ []) process → (node : ProcessNode) × Contains (processes_of file) node × (named naming node ≡ process)
+pub named_from : (naming : Naming) (file : FileNode) (process : Named) → Contains (named_bodies naming file ++ named_system naming file ∷ []) process → (node : ProcessNode) × Contains (processes_of file) node × (named naming node ≡ process)
 named_from naming file process among =
     elim (Contains-append_cases (named_bodies naming file) (named_system naming file ∷ []) process among) [
       | inl h ↦ let line = contains_map_from (λ (line : ProcessLineNode). named naming line.body) file.processes process h in

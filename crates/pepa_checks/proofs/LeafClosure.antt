@@ -234,9 +234,9 @@ module _ (m : PepaModel) where
     moves_known e (OpenConst c p) opens is =
         moves_known opens.1.0 p opens.1.2 (named (Sequentially opens.1.0) (contains_from_get definitions c (Sequentially opens.1.0) opens.1.1))
 
-    known_map : (leaves : List Expression) (ts : List Transition) → AllByRecursion (λ (t : Transition). t.action < length m.actions) ts → AllByRecursion (λ (a : Activity). a.action < length m.actions) (map (activity_in leaves) ts)
-    known_map leaves [] h = tt
-    known_map leaves (t ∷ ts) h = (h.0, known_map leaves ts h.1)
+    known_map : (all : List Expression) (ts : List Transition) → AllByRecursion (λ (t : Transition). t.action < length m.actions) ts → AllByRecursion (λ (a : Activity). a.action < length m.actions) (map (activity_in all) ts)
+    known_map all [] h = tt
+    known_map all (t ∷ ts) h = (h.0, known_map all ts h.1)
 
     pub activities_known : (e : Expression) (opened : Opened) → Contains (leaves_of definitions system) e → Opens definitions e opened → AllByRecursion (λ (a : Activity). a.action < length m.actions) (activities_in (leaves_of definitions system) opened)
     activities_known e opened among opens = known_map (leaves_of definitions system) (moves opened) (moves_known e opened opens (leaf_named e among))

@@ -16,3 +16,5 @@ pub mod Openings
 pub mod Expansions
 pub mod BuiltFiles
 pub mod LeafClosure
+pub mod ModelShapes
+pub mod IsModels
