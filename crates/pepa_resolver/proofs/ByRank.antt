@@ -1,12 +1,12 @@
 -- Constants in the order of their ranks.
-use Rattle.std.proofs.Common.{◌≡◌, ℕ, ◌+◌, ◌<◌, ◌≤◌, inl, inr, List, [], ◌∷◌, ◌++◌, map, length, get_or, Some, slice_get, refl, sym, ◌∙◌, ap, subst, arith, length-append}
+use Rattle.std.proofs.Common.{◌≡◌, ℕ, ◌<◌, inl, inr, List, ◌∷◌, map, length, get_or, refl, sym, ◌∙◌, ap, subst, arith, length-append}
 use Rattle.std.specs.List.{Contains}
 use Rattle.std.specs.List.Sorted.{IsNonDecreasingBy, IsPermutation}
 use Rattle.std.proofs.lemmas.Bool.{cases_lt}
 use Rattle.std.proofs.lemmas.List.{length-map, get_or-map, get_or_default, get_or_append_left}
 use Rattle.std.proofs.Math.Seq.{get_or-append_seam}
 use Rattle.std.proofs.lemmas.List.Sorted.{Contains-permutation, IsPermutation-sym, length_permutation}
-use Rattle.std.proofs.lemmas.Option.{get_or_from_slice_get, slice_get_within, slice_get-get_or}
+use Rattle.std.proofs.lemmas.Option.{get_or_from_slice_get, slice_get_within}
 use Rattle.pepa_resolver.specs.declared.orders.Ranked.{Ranked}
 use Rattle.pepa_resolver.specs.Graphs.{IsOrder}
 use Rattle.pepa_resolver.specs.Ranks.{IsRankedAbove}
@@ -50,13 +50,16 @@ module _ (ranks : List ℕ) (list sorted : List Ranked) (are : AreRanked ranks (
         let r = get_or sorted (length before) (at_rank ranks d) in
         let among : Contains sorted r = (length before, within, get_or_default sorted (length before) r (at_rank ranks d) within) in
         let is_c : r.constant ≡ c =
-            sym (get_or-map (λ x. x.constant) sorted (length before) (at_rank ranks d) 0 within)
-            ∙ ap (λ xs. get_or xs (length before) 0) whole ∙ get_or-append_seam before c after 0 in
+        sym (get_or-map (λ x. x.constant) sorted (length before) (at_rank ranks d) 0 within)
+        ∙ ap (λ xs. get_or xs (length before) 0) whole ∙ get_or-append_seam before c after 0 in
         let rank_is : r.rank ≡ get_or ranks c 0 = (is_ranked r among).1 ∙ ap (λ n. get_or ranks n 0) is_c in
         elim (cases_lt there.0 (length before)) [
-          | inl front ↦
-              (there.0, front, sym (get_or_append_left before (c ∷ after) d there.0 front) ∙ ap (λ xs. get_or xs there.0 d) (sym whole)
-              ∙ get_or-map (λ x. x.constant) sorted there.0 (at_rank ranks d) d there.1 ∙ ap (λ x. x.constant) there.2)
+          | inl front ↦ (
+            there.0,
+            front,
+            sym (get_or_append_left before (c ∷ after) d there.0 front) ∙ ap (λ xs. get_or xs there.0 d) (sym whole)
+                ∙ get_or-map (λ x. x.constant) sorted there.0 (at_rank ranks d) d there.1 ∙ ap (λ x. x.constant) there.2,
+          )
           | inr later ↦
               absurd (omega (arith, up (length before) there.0 (at_rank ranks d) later there.1, ap (λ x. x.rank) there.2, rank_is, above.1))
         ];

@@ -19,7 +19,7 @@ module _ (Edge : ℕ → ℕ → Type 0) (rank : ℕ → ℕ) (falls : (c d : �
   leads_down zero c d same = omega (arith, ap rank same)
   leads_down (suc n) c d way = omega (arith, falls c way.0 way.1, leads_down n way.0 d way.2)
 
-  pub falling : HasNoCycle Edge
+  falling : HasNoCycle Edge
   falling c back = absurd (omega (arith, falls c (back.1).0 (back.1).1, leads_down back.0 (back.1).0 c (back.1).2))
 
 -- an order along more edges is one along these
@@ -36,8 +36,8 @@ pub order_found : (edges : List (List ℕ)) (ranks order : List ℕ) → HasEdge
 order_found edges ranks order below given in_order = (
   falling (EdgeOf edges) (λ c. get_or ranks c 0) given.fall,
   subst (λ n. IsOrder (EdgeOf edges) n order) given.one_each
-  (order_along (IsRankedAbove ranks) (EdgeOf edges) (length ranks) order
-    (λ c d edge. (subst (λ n. d < n) (sym given.one_each) (below c d edge), given.fall c d edge)) in_order)
+      (order_along (IsRankedAbove ranks) (EdgeOf edges) (length ranks) order
+      (λ c d edge. (subst (λ n. d < n) (sym given.one_each) (below c d edge), given.fall c d edge)) in_order),
 )
 
 -- ---- one constant after another
@@ -103,7 +103,7 @@ leads_on_more : (Edge : ℕ → ℕ → Type 0) (c d e : ℕ) → Edge c d → L
 leads_on_more Edge c d e edge on = (suc on.0, (d, edge, on.1))
 
 -- a table of what the successors reach is one of what the constant leads on to
-pub reach_table : (edges : List (List ℕ)) (c : ℕ) (e targets : List ℕ) (table : List Bool) → c < length edges → targets ≡ get_or edges c e → IsTableOf (IsReached edges targets) table → IsTableOf (LeadsOn (EdgeOf edges) c) table
+reach_table : (edges : List (List ℕ)) (c : ℕ) (e targets : List ℕ) (table : List Bool) → c < length edges → targets ≡ get_or edges c e → IsTableOf (IsReached edges targets) table → IsTableOf (LeadsOn (EdgeOf edges) c) table
 reach_table edges c e targets table within read given = record {
   sound = λ d hit.
       let way = given.sound d hit in
@@ -130,8 +130,8 @@ reaches_back edges c e targets table within read given hit =
 reach_falls : (edges : List (List ℕ)) (c d : ℕ) (reach_c reach_d : ℕ) → HasReach edges c reach_c → HasReach edges d reach_d → EdgeOf edges c d → reach_d < reach_c
 reach_falls edges c d reach_c reach_d of_c of_d edge =
     let less = marks_less of_d.table of_c.table (of_d.one_each ∙ sym of_c.one_each)
-        (λ k hit. of_c.table_is.complete k (leads_on_more (EdgeOf edges) c d k edge (of_d.table_is.sound k hit)))
-        d (of_c.table_is.complete d (0, (d, edge, refl))) (λ hit. of_d.not_back (of_d.table_is.sound d hit)) in
+    (λ k hit. of_c.table_is.complete k (leads_on_more (EdgeOf edges) c d k edge (of_d.table_is.sound k hit)))
+    d (of_c.table_is.complete d (0, (d, edge, refl))) (λ hit. of_d.not_back (of_d.table_is.sound d hit)) in
     omega (arith, less, of_c.reach_is, of_d.reach_is)
 
 pub record HasReachesUpTo (edges : List (List ℕ)) (ranks : List ℕ) (at : ℕ) : Type 0 where

@@ -27,3 +27,4 @@ pub mod Sequentials
 pub mod EdgeLists
 pub mod Structured
 pub mod Stops
+pub mod WellBuilt

@@ -1,11 +1,11 @@
 -- What edges reach, and the search for it.
-use Rattle.std.proofs.Common.{◌≡◌, ℕ, zero, suc, ◌+◌, ◌<◌, ◌≤◌, inl, inr, Bool, true, false, List, [], ◌∷◌, ◌++◌, length, get_or, replicate, Some, refl, sym, ◌∙◌, ap, subst, arith, length-append}
+use Rattle.std.proofs.Common.{◌≡◌, ℕ, zero, suc, ◌+◌, ◌<◌, ◌≤◌, inl, inr, Bool, true, false, List, [], ◌∷◌, ◌++◌, length, get_or, replicate, refl, sym, ◌∙◌, ap, subst, arith, length-append}
 use Rattle.std.specs.List.{Contains}
 use Rattle.std.proofs.lemmas.Bool.{false≢true, cases_lt}
 use Rattle.std.proofs.lemmas.List.{get_or_default, get_or_append_left, length-replicate, get_or-replicate}
 use Rattle.std.proofs.lemmas.Option.{slice_get_within, get_or_from_slice_get, slice_get-get_or}
 use Rattle.std.proofs.lemmas.List.Elements.{Contains-get_or, Contains-push_cases}
-use Rattle.pepa_resolver.specs.Structure.{Leads, ReachesItself, HasNoCycle}
+use Rattle.pepa_resolver.specs.Structure.{Leads}
 use Rattle.pepa_resolver.specs.Graphs.{EdgeOf, AreBelow, HasEdgesBelow, IsMarked, IsReached, IsTableOf}
 use Rattle.pepa_resolver.specs.Marking.{IsMarking, IsQueueOf}
 
@@ -115,12 +115,6 @@ search_ends edges from seen queue done so_far all = record {
       (way.2).0 way.0 d (way.2).1 (so_far.starts way.0 way.1);
 }
 
--- ---- ways back
-
--- a number past the lists has no edges
-pub none_past : (edges : List (List ℕ)) (c : ℕ) → length edges ≤ c → ReachesItself (EdgeOf edges) c → ⊥
-none_past edges c past back = absurd (omega (arith, edge_within edges c (back.1).0 (back.1).1))
-
 -- ---- what the program's parts keep
 
 pub none_below : (n : ℕ) → AreBelow n []
@@ -130,16 +124,4 @@ pub pushed_below : (n : ℕ) (queue : List ℕ) (t : ℕ) → AreBelow n queue �
 pushed_below n queue t below low = λ d among. elim (Contains-push_cases queue t d among) [
   | inl before ↦ below d before
   | inr same ↦ subst (λ x. x < n) same low
-]
-
-pub none_more : (Holds : ℕ → Type 0) (i : ℕ) → ((c : ℕ) → c < i → Holds c → ⊥) → (Holds i → ⊥) → (c : ℕ) → c < i + 1 → Holds c → ⊥
-none_more Holds i so_far here c low holds = elim (cases_lt c i) [
-  | inl before ↦ so_far c before holds
-  | inr after ↦ let is : c ≡ i = omega arith in here (subst Holds is holds)
-]
-
-pub none_back : (edges : List (List ℕ)) (i : ℕ) → length edges ≤ i → ((c : ℕ) → c < i → ReachesItself (EdgeOf edges) c → ⊥) → HasNoCycle (EdgeOf edges)
-none_back edges i all so_far c back = elim (cases_lt c i) [
-  | inl before ↦ so_far c before back
-  | inr after ↦ none_past edges c (omega arith) back
 ]

@@ -1,5 +1,5 @@
 -- Lists of constants with their ranks.
-use Rattle.std.specs.Prelude.{◌≡◌, ℕ, ◌<◌, ◌≤◌, List, length, slice_index, Some, slice_get}
+use Rattle.std.specs.Prelude.{◌≡◌, ℕ, ◌<◌, List, length, slice_index, Some, slice_get}
 use Rattle.pepa_resolver.specs.declared.orders.Ranked.{Ranked}
 
 -- the first constants, so many, in ascending order, each with its rank

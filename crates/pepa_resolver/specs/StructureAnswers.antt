@@ -1,5 +1,5 @@
 -- What the check of the structure answers.
-use Rattle.std.specs.Prelude.{◌≡◌, ℕ, true, cond, Option, Some, None, List, length, min}
+use Rattle.std.specs.Prelude.{◌≡◌, ℕ, true, cond, Option, Some, List, length}
 use Rattle.std.specs.List.{Contains}
 use Rattle.pepa_resolver.specs.declared.structure.Parts.{Parts}
 use Rattle.pepa_resolver.specs.declared.structure.Structure.{Structure}

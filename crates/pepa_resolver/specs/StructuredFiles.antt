@@ -7,7 +7,7 @@ use Rattle.pepa_lexer.specs.declared.kinds.Token.{Token}
 use Rattle.pepa_lexer.specs.declared.kinds.Place.{Place}
 use Rattle.pepa_reader.specs.Trees.{FileNode}
 use Rattle.pepa_resolver.specs.declared.cause.CheckCause.{CheckCause}
-use Rattle.pepa_resolver.specs.declared.cause.CheckCause.TheVariants.{NotSequential, ModelCycle, Unguarded, Twice, UnknownName, TauInSet, BadRate, TooMany}
+use Rattle.pepa_resolver.specs.declared.cause.CheckCause.TheVariants.{NotSequential, ModelCycle, Unguarded}
 use Rattle.pepa_resolver.specs.declared.cause.CheckEnd.{CheckEnd}
 use Rattle.pepa_resolver.specs.declared.cause.CheckEnd.TheVariants.{Refused, Memory}
 use Rattle.pepa_resolver.specs.declared.file_structure.StructuredFile.{StructuredFile}

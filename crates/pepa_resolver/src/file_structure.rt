@@ -100,14 +100,14 @@ pub fn check_names_rates_and_structure(
 /// What the checks have found, in one.
 fn structured(checked: NamesAndRates, numbered: NamedFile, structure: Structure) -> StructuredFile
     ensures { result ≡ record {
-        names = checked.names;
-        values = checked.values;
-        actions = numbered.actions;
-        bodies = numbered.bodies;
-        system = numbered.system;
-        compounds = structure.compounds;
-        compound_order = structure.compound_order;
-        sequential_order = structure.sequential_order;
+      names = checked.names;
+      values = checked.values;
+      actions = numbered.actions;
+      bodies = numbered.bodies;
+      system = numbered.system;
+      compounds = structure.compounds;
+      compound_order = structure.compound_order;
+      sequential_order = structure.sequential_order;
     } }
 {
     StructuredFile {

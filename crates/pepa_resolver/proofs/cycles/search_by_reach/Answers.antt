@@ -1,6 +1,5 @@
-use Rattle.std.proofs.Common.{length, ap, arith, sym, ◌∙◌, subst, ◌<◌}
-use Rattle.pepa_resolver.specs.Structure.{ReachesItself}
-use Rattle.pepa_resolver.specs.Graphs.{EdgeOf, IsOrder}
+use Rattle.std.proofs.Common.{length, ap, arith, subst}
+use Rattle.pepa_resolver.specs.Graphs.{IsOrder}
 use Rattle.pepa_resolver.specs.Ranks.{IsRankedAbove}
 use Rattle.pepa_resolver.proofs.Falling.{reaches_begin, reaches_more, reaches_end, order_found}
 use Rattle.pepa_resolver.proofs.cycles.search_by_reach.Goals as goal
