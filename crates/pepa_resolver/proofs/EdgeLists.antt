@@ -1,5 +1,5 @@
 -- The lists of edges, one after another, and the answers about their constants.
-use Rattle.std.proofs.Common.{◌≡◌, ℕ, zero, suc, ◌+◌, ◌<◌, inl, inr, Bool, true, false, List, [], ◌∷◌, ◌++◌, length, get_or, take, MatchOption, Option, Some, None, slice_get, refl, sym, ◌∙◌, ap, subst, arith, length-append}
+use Rattle.std.proofs.Common.{◌≡◌, ℕ, zero, suc, ◌+◌, ◌<◌, inl, inr, Bool, true, false, List, [], ◌∷◌, ◌++◌, length, get_or, take, Some, slice_get, refl, sym, ◌∙◌, ap, subst, arith, length-append}
 use Rattle.std.specs.List.{Contains}
 use Rattle.std.proofs.lemmas.Bool.{false≢true, cases_lt}
 use Rattle.std.proofs.lemmas.List.{get_or_append_left, take_more}
@@ -8,11 +8,15 @@ use Rattle.std.proofs.lemmas.Option.{slice_get_within, get_or_from_slice_get}
 use Rattle.std.proofs.lemmas.List.Elements.{Contains-append_left, Contains-append_right, Contains-append_cases}
 use Rattle.pepa_resolver.specs.Named.{Named, NamedConstant, NamedPrefix, NamedChoice, NamedCoop, NamedHide, constants_named, unguarded}
 use Rattle.pepa_resolver.specs.Structure.{Leads, ReachesItself, IsCompound, CompoundEdge, UnguardedEdge, IsFirstCycle, HasNoCycle}
-use Rattle.pepa_resolver.specs.Graphs.{EdgeOf, HasEdgesBelow, IsTableOf}
+use Rattle.pepa_resolver.specs.declared.cycles.Found.{Found}
+use Rattle.pepa_resolver.specs.declared.cycles.Found.TheVariants.{Cycle, Order}
+use Rattle.pepa_resolver.specs.Graphs.{EdgeOf, HasEdgesBelow, IsTableOf, IsOrder}
+use Rattle.pepa_resolver.specs.Ranks.{IsFound}
 use Rattle.pepa_resolver.specs.NamedTypes.{HasConstantsBelow}
 use Rattle.pepa_resolver.specs.StructureAnswers.{HasTheEdges}
 use Rattle.pepa_resolver.proofs.Marks.{marked_at}
 use Rattle.pepa_resolver.proofs.Reaching.{edge_at, edge_among, edge_within}
+use Rattle.pepa_resolver.proofs.Falling.{order_along}
 use Rattle.pepa_resolver.proofs.Bodies.{same_body, contains_from_get}
 
 pub take_body : {X : Type 0} → (xs : List X) (i : ℕ) (x : X) → slice_get xs i ≡ Some x → take (i + 1) xs ≡ take i xs ++ x ∷ []
@@ -126,20 +130,24 @@ leads_same E F to (suc n) c d way = (way.0, to c way.0 way.1, leads_same E F to 
 reaches_same : (E F : ℕ → ℕ → Type 0) → ((c d : ℕ) → E c d → F c d) → (c : ℕ) → ReachesItself E c → ReachesItself F c
 reaches_same E F to c back = (back.0, leads_same E F to (suc back.0) c c back.1)
 
-pub no_cycle_same : (Edge : ℕ → ℕ → Type 0) (edges : List (List ℕ)) → HasTheEdges Edge edges → HasNoCycle (EdgeOf edges) → HasNoCycle Edge
+no_cycle_same : (Edge : ℕ → ℕ → Type 0) (edges : List (List ℕ)) → HasTheEdges Edge edges → HasNoCycle (EdgeOf edges) → HasNoCycle Edge
 no_cycle_same Edge edges told none = λ c back. none c (reaches_same Edge (EdgeOf edges) told.complete c back)
 
-pub first_cycle_same : (Edge : ℕ → ℕ → Type 0) (edges : List (List ℕ)) (c : ℕ) → HasTheEdges Edge edges → IsFirstCycle (EdgeOf edges) c → IsFirstCycle Edge c
+first_cycle_same : (Edge : ℕ → ℕ → Type 0) (edges : List (List ℕ)) (c : ℕ) → HasTheEdges Edge edges → IsFirstCycle (EdgeOf edges) c → IsFirstCycle Edge c
 first_cycle_same Edge edges c told given = record {
   cycle = reaches_same (EdgeOf edges) Edge told.sound c given.cycle;
   first = λ other low back. given.first other low (reaches_same Edge (EdgeOf edges) told.complete other back);
 }
 
-pub answer_same : (Edge : ℕ → ℕ → Type 0) (edges : List (List ℕ)) → HasTheEdges Edge edges → (found : Option ℕ) → MatchOption found (HasNoCycle (EdgeOf edges)) (IsFirstCycle (EdgeOf edges)) → MatchOption found (HasNoCycle Edge) (IsFirstCycle Edge)
-answer_same Edge edges told None given = no_cycle_same Edge edges told given
-answer_same Edge edges told (Some c) given = first_cycle_same Edge edges c told given
+order_same : (Edge : ℕ → ℕ → Type 0) (edges : List (List ℕ)) (count : ℕ) (order : List ℕ) → HasTheEdges Edge edges → IsOrder (EdgeOf edges) count order → IsOrder Edge count order
+order_same Edge edges count order told given = order_along (EdgeOf edges) Edge count order told.complete given
+
+found_same : (Edge : ℕ → ℕ → Type 0) (edges : List (List ℕ)) (count : ℕ) → HasTheEdges Edge edges → (found : Found) → IsFound (EdgeOf edges) count found → IsFound Edge count found
+found_same Edge edges count told (Cycle c) given = first_cycle_same Edge edges c told given
+found_same Edge edges count told (Order order) given = (no_cycle_same Edge edges told given.0, order_same Edge edges count order told given.1)
 
 -- the same, by the lists that the program read
-pub answer_read : (Edge : ℕ → ℕ → Type 0) (edges read : List (List ℕ)) (found : Option ℕ) → HasTheEdges Edge edges → read ≡ edges → MatchOption found (HasNoCycle (EdgeOf read)) (IsFirstCycle (EdgeOf read)) → MatchOption found (HasNoCycle Edge) (IsFirstCycle Edge)
-answer_read Edge edges read found told is given =
-    answer_same Edge edges told found (subst (λ e. MatchOption found (HasNoCycle (EdgeOf e)) (IsFirstCycle (EdgeOf e))) is given)
+pub found_read : (Edge : ℕ → ℕ → Type 0) (edges read : List (List ℕ)) (count : ℕ) (found : Found) → HasTheEdges Edge edges → read ≡ edges → length edges ≡ count → IsFound (EdgeOf read) (length read) found → IsFound Edge count found
+found_read Edge edges read count found told is size given =
+    found_same Edge edges count told found
+    (subst (λ n. IsFound (EdgeOf edges) n found) size (subst (λ e. IsFound (EdgeOf e) (length e) found) is given))

@@ -20,8 +20,11 @@ pub mod NumberedFile
 pub mod NumberMeanings
 pub mod Marks
 pub mod Reaching
+pub mod Falling
+pub mod ByRank
 pub mod Bodies
 pub mod Sequentials
 pub mod EdgeLists
 pub mod Structured
 pub mod Stops
+pub mod WellBuilt

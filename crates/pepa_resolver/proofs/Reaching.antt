@@ -1,11 +1,11 @@
 -- What edges reach, and the search for it.
-use Rattle.std.proofs.Common.{◌≡◌, ℕ, zero, suc, ◌+◌, ◌<◌, ◌≤◌, inl, inr, Bool, true, false, List, [], ◌∷◌, ◌++◌, length, get_or, replicate, Some, refl, sym, ◌∙◌, ap, subst, arith, length-append}
+use Rattle.std.proofs.Common.{◌≡◌, ℕ, zero, suc, ◌+◌, ◌<◌, ◌≤◌, inl, inr, Bool, true, false, List, [], ◌∷◌, ◌++◌, length, get_or, replicate, refl, sym, ◌∙◌, ap, subst, arith, length-append}
 use Rattle.std.specs.List.{Contains}
 use Rattle.std.proofs.lemmas.Bool.{false≢true, cases_lt}
 use Rattle.std.proofs.lemmas.List.{get_or_default, get_or_append_left, length-replicate, get_or-replicate}
 use Rattle.std.proofs.lemmas.Option.{slice_get_within, get_or_from_slice_get, slice_get-get_or}
 use Rattle.std.proofs.lemmas.List.Elements.{Contains-get_or, Contains-push_cases}
-use Rattle.pepa_resolver.specs.Structure.{Leads, ReachesItself, HasNoCycle}
+use Rattle.pepa_resolver.specs.Structure.{Leads}
 use Rattle.pepa_resolver.specs.Graphs.{EdgeOf, AreBelow, HasEdgesBelow, IsMarked, IsReached, IsTableOf}
 use Rattle.pepa_resolver.specs.Marking.{IsMarking, IsQueueOf}
 
@@ -115,26 +115,6 @@ search_ends edges from seen queue done so_far all = record {
       (way.2).0 way.0 d (way.2).1 (so_far.starts way.0 way.1);
 }
 
--- ---- ways back
-
-pub back_from_table : (edges : List (List ℕ)) (c : ℕ) (e : List ℕ) → c < length edges → IsReached edges (get_or edges c e) c → ReachesItself (EdgeOf edges) c
-back_from_table edges c e within way = ((way.2).0, (way.0, edge_at edges c way.0 e within way.1, (way.2).1))
-
-pub table_from_back : (edges : List (List ℕ)) (c : ℕ) (e : List ℕ) → ReachesItself (EdgeOf edges) c → IsReached edges (get_or edges c e) c
-table_from_back edges c e back = ((back.1).0, edge_among edges c (back.1).0 e (back.1).1, (back.0, (back.1).2))
-
--- a number past the lists has no edges
-pub none_past : (edges : List (List ℕ)) (c : ℕ) → length edges ≤ c → ReachesItself (EdgeOf edges) c → ⊥
-none_past edges c past back = absurd (omega (arith, edge_within edges c (back.1).0 (back.1).1))
-
--- places that rise along each edge leave no way back
-leads_up : (Edge : ℕ → ℕ → Type 0) (place : ℕ → ℕ) → ((c d : ℕ) → Edge c d → place c < place d) → (n c d : ℕ) → Leads Edge n c d → place c ≤ place d
-leads_up Edge place rises zero c d same = omega (arith, ap place same)
-leads_up Edge place rises (suc n) c d way = omega (arith, rises c way.0 way.1, leads_up Edge place rises n way.0 d way.2)
-
-pub rising : (Edge : ℕ → ℕ → Type 0) (place : ℕ → ℕ) → ((c d : ℕ) → Edge c d → place c < place d) → HasNoCycle Edge
-rising Edge place rises c back = absurd (omega (arith, rises c (back.1).0 (back.1).1, leads_up Edge place rises back.0 (back.1).0 c (back.1).2))
-
 -- ---- what the program's parts keep
 
 pub none_below : (n : ℕ) → AreBelow n []
@@ -144,44 +124,4 @@ pub pushed_below : (n : ℕ) (queue : List ℕ) (t : ℕ) → AreBelow n queue �
 pushed_below n queue t below low = λ d among. elim (Contains-push_cases queue t d among) [
   | inl before ↦ below d before
   | inr same ↦ subst (λ x. x < n) same low
-]
-
-pub back_from_mark : (edges : List (List ℕ)) (c : ℕ) (e targets : List ℕ) (table : List Bool) → c < length edges → targets ≡ get_or edges c e → (length table ≡ length edges) × IsTableOf (IsReached edges targets) table → get_or table c false ≡ true → ReachesItself (EdgeOf edges) c
-back_from_mark edges c e targets table within read given hit =
-    back_from_table edges c e within
-    (subst (λ ts. IsReached edges ts c) read (given.1.sound c (slice_get-get_or table c false (omega (arith, given.0)) ∙ ap Some hit)))
-
-pub mark_from_back : (edges : List (List ℕ)) (c : ℕ) (e targets : List ℕ) (table : List Bool) → targets ≡ get_or edges c e → IsTableOf (IsReached edges targets) table → ReachesItself (EdgeOf edges) c → get_or table c false ≡ true
-mark_from_back edges c e targets table read given back =
-    get_or_from_slice_get table c true false
-    (given.complete c (subst (λ ts. IsReached edges ts c) (sym read) (table_from_back edges c e back)))
-
-pub behind_each : (places : List ℕ) (place : ℕ) (targets : List ℕ) → ((k : ℕ) → k < length targets → place < get_or places (get_or targets k 0) 0) → (d : ℕ) → Contains targets d → place < get_or places d 0
-behind_each places place targets each d among =
-    subst (λ x. place < get_or places x 0) (get_or_default targets among.0 0 d among.1 ∙ among.2) (each among.0 among.1)
-
-pub rises_more : (edges : List (List ℕ)) (places : List ℕ) (at : ℕ) (e targets : List ℕ) → ((c : ℕ) → c < at → (d : ℕ) → EdgeOf edges c d → get_or places c 0 < get_or places d 0) → targets ≡ get_or edges at e → ((d : ℕ) → Contains targets d → get_or places at 0 < get_or places d 0) → (c : ℕ) → c < at + 1 → (d : ℕ) → EdgeOf edges c d → get_or places c 0 < get_or places d 0
-rises_more edges places at e targets so_far read here c low d edge = elim (cases_lt c at) [
-  | inl before ↦ so_far c before d edge
-  | inr after ↦
-      let is : c ≡ at = omega arith in
-      let edge2 : EdgeOf edges at d = subst (λ x. EdgeOf edges x d) is edge in
-      subst (λ x. get_or places x 0 < get_or places d 0) (sym is)
-      (here d (subst (λ ts. Contains ts d) (sym read) (edge_among edges at d e edge2)))
-]
-
-pub rises_all : (edges : List (List ℕ)) (places : List ℕ) (at : ℕ) → length edges ≤ at → ((c : ℕ) → c < at → (d : ℕ) → EdgeOf edges c d → get_or places c 0 < get_or places d 0) → HasNoCycle (EdgeOf edges)
-rises_all edges places at all so_far =
-    rising (EdgeOf edges) (λ c. get_or places c 0) (λ c d edge. so_far c (omega (arith, edge_within edges c d edge)) d edge)
-
-pub none_more : (Holds : ℕ → Type 0) (i : ℕ) → ((c : ℕ) → c < i → Holds c → ⊥) → (Holds i → ⊥) → (c : ℕ) → c < i + 1 → Holds c → ⊥
-none_more Holds i so_far here c low holds = elim (cases_lt c i) [
-  | inl before ↦ so_far c before holds
-  | inr after ↦ let is : c ≡ i = omega arith in here (subst Holds is holds)
-]
-
-pub none_back : (edges : List (List ℕ)) (i : ℕ) → length edges ≤ i → ((c : ℕ) → c < i → ReachesItself (EdgeOf edges) c → ⊥) → HasNoCycle (EdgeOf edges)
-none_back edges i all so_far c back = elim (cases_lt c i) [
-  | inl before ↦ so_far c before back
-  | inr after ↦ none_past edges c (omega arith) back
 ]

@@ -15,5 +15,7 @@ pub mod NumberSteps
 pub mod Structure
 pub mod Graphs
 pub mod Marking
+pub mod Ranks
+pub mod RankLists
 pub mod StructureAnswers
 pub mod StructuredFiles

@@ -1,14 +1,15 @@
 -- What the check of the structure answers.
-use Rattle.std.specs.Prelude.{◌≡◌, ℕ, true, cond, Option, Some, None, List, min}
+use Rattle.std.specs.Prelude.{◌≡◌, ℕ, true, cond, Option, Some, List, length}
 use Rattle.std.specs.List.{Contains}
 use Rattle.pepa_resolver.specs.declared.structure.Parts.{Parts}
+use Rattle.pepa_resolver.specs.declared.structure.Structure.{Structure}
 use Rattle.pepa_resolver.specs.declared.structure.StructureEnd.{StructureEnd}
 use Rattle.pepa_resolver.specs.declared.structure.StructureEnd.TheVariants.{NotSequential, ModelCycle, Unguarded, Memory}
 use Rattle.pepa_resolver.specs.Named.{Named, first_at, sequential_parts}
-use Rattle.pepa_resolver.specs.Structure.{has_system, IsSystem, NotSequentialAt, CompoundEdge, UnguardedEdge, IsFirstCycle, HasNoCycle}
+use Rattle.pepa_resolver.specs.Structure.{has_system, IsSystem, IsCompound, NotSequentialAt, CompoundEdge, UnguardedEdge, IsFirstCycle, HasNoCycle}
 use Rattle.pepa_resolver.specs.Faults.{HasNone, IsLeast}
 use Rattle.pepa_resolver.specs.Finding.{Finds, least_of}
-use Rattle.pepa_resolver.specs.Graphs.{EdgeOf}
+use Rattle.pepa_resolver.specs.Graphs.{EdgeOf, IsTableOf, IsOrder}
 
 -- a part of one process that has to be sequential and isn't, by its first place
 abbrev pub PartAt : List Named → Named → ℕ → Type 0
@@ -36,6 +37,14 @@ pub record IsStructured (bodies : List Named) (system : Named) : Type 0 where
   pub sequential : HasNone (NotSequentialAt bodies system)
   pub compound : HasNoCycle (CompoundEdge bodies)
   pub guarded : HasNoCycle (UnguardedEdge bodies)
+
+-- nothing is wrong with so many bodies and the system, and what is found of them
+pub record IsStructureOf (bodies : List Named) (system : Named) (count : ℕ) (found : Structure) : Type 0 where
+  pub structured : IsStructured bodies system
+  pub one_each : length found.compounds ≡ count
+  pub compounds : IsTableOf (IsCompound bodies) found.compounds
+  pub compound_order : IsOrder (CompoundEdge bodies) count found.compound_order
+  pub sequential_order : IsOrder (UnguardedEdge bodies) count found.sequential_order
 
 -- what is wrong first
 abbrev pub IsStructureEnd : List Named → Named → StructureEnd → Type 0

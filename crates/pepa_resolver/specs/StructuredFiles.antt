@@ -1,12 +1,13 @@
 -- What the checks up to the structure of a file answer.
-use Rattle.std.specs.Prelude.{◌≡◌, ℕ, List, map, Some, slice_get, Result, Ok, Err}
+use Rattle.std.specs.Prelude.{◌≡◌, ℕ, ◌≤◌, List, map, length, Some, slice_get, Result, Ok, Err}
+use Rattle.std.specs.List.{Contains}
 use Rattle.indexmap.specs.IndexMap.{keys}
 use Rattle.pepa_rates.specs.declared.rate.Rate.{Rate}
 use Rattle.pepa_lexer.specs.declared.kinds.Token.{Token}
 use Rattle.pepa_lexer.specs.declared.kinds.Place.{Place}
 use Rattle.pepa_reader.specs.Trees.{FileNode}
 use Rattle.pepa_resolver.specs.declared.cause.CheckCause.{CheckCause}
-use Rattle.pepa_resolver.specs.declared.cause.CheckCause.TheVariants.{NotSequential, ModelCycle, Unguarded, Twice, UnknownName, TauInSet, BadRate, TooMany}
+use Rattle.pepa_resolver.specs.declared.cause.CheckCause.TheVariants.{NotSequential, ModelCycle, Unguarded}
 use Rattle.pepa_resolver.specs.declared.cause.CheckEnd.{CheckEnd}
 use Rattle.pepa_resolver.specs.declared.cause.CheckEnd.TheVariants.{Refused, Memory}
 use Rattle.pepa_resolver.specs.declared.file_structure.StructuredFile.{StructuredFile}
@@ -17,8 +18,9 @@ use Rattle.pepa_resolver.specs.NamesChecks.{AreNamesOf}
 use Rattle.pepa_resolver.specs.CheckedRates.{AreRates}
 use Rattle.pepa_resolver.specs.Named.{Named}
 use Rattle.pepa_resolver.specs.NamedTypes.{named_of}
-use Rattle.pepa_resolver.specs.Numbers.{actions_of, naming_of, named_bodies, named_system}
-use Rattle.pepa_resolver.specs.Structure.{NotSequentialAt, CompoundEdge, UnguardedEdge, IsFirstCycle, HasNoCycle}
+use Rattle.pepa_resolver.specs.Numbers.{actions_of, naming_of, named_bodies, named_system, IsInRange}
+use Rattle.pepa_resolver.specs.Structure.{IsCompound, NotSequentialAt, CompoundEdge, UnguardedEdge, IsFirstCycle, HasNoCycle}
+use Rattle.pepa_resolver.specs.Graphs.{IsTableOf, IsOrder}
 use Rattle.pepa_resolver.specs.StructureAnswers.{IsStructured}
 
 -- a file without a fault of its limits, names, sets and rates, with numbers in place of its names: what its constants stand
@@ -65,12 +67,20 @@ pub record IsStop (input : List ℕ) (tokens : List Token) (file : FileNode) (ca
   pub is_token : slice_get tokens i ≡ Some token
   pub place_is : place ≡ token.place
 
--- a file without a fault up to its structure
+-- a file without a fault up to its structure, with numbers in place of its names, which of its constants are compound, and
+-- an order of them along each kind of edges
 pub record IsStructuredFile (input : List ℕ) (tokens : List Token) (file : FileNode) (found : StructuredFile) : Type 0 where
   pub names : AreNamesOf input tokens file found.names
   pub actions : keys found.actions ≡ actions_of (name_at input tokens) file
   pub numbered : IsNumbered input tokens file found.values (map named_of found.bodies) (named_of found.system)
+  pub few : length found.bodies ≤ 1024
+  pub bodies_in_range : (body : Named) → Contains (map named_of found.bodies) body → IsInRange (length found.bodies) (length (keys found.actions)) body
+  pub system_in_range : IsInRange (length found.bodies) (length (keys found.actions)) (named_of found.system)
   pub structured : IsStructured (map named_of found.bodies) (named_of found.system)
+  pub one_each : length found.compounds ≡ length found.bodies
+  pub compounds : IsTableOf (IsCompound (map named_of found.bodies)) found.compounds
+  pub compound_order : IsOrder (CompoundEdge (map named_of found.bodies)) (length found.bodies) found.compound_order
+  pub sequential_order : IsOrder (UnguardedEdge (map named_of found.bodies)) (length found.bodies) found.sequential_order
 
 -- what may be answered: the file with numbers, its first fault, or that memory ran out
 abbrev pub ChecksStructure : List ℕ → List Token → FileNode → Result StructuredFile CheckEnd → Type 0

@@ -1,12 +1,24 @@
-//! Graphs of constants, by the list of each one's successors: what is reached, and the least one that reaches itself.
-ghost use Rattle.std.specs.Prelude.{◌≡◌, ℕ, ◌<◌, ◌+◌, length, vec_len, IfOk, OnOk, MatchOption, IsTrue, slice_index};
+//! Graphs of constants, by the list of each one's successors: what is reached, the least one that reaches itself, and an
+//! order of them where none does.
+ghost use Rattle.std.specs.Prelude.{◌≡◌, ℕ, ◌<◌, ◌+◌, length, vec_len, IfOk, OnOk, MatchOption, IsTrue, slice_index, count_by};
 ghost use Rattle.std.specs.List.{Contains};
-ghost use Rattle.pepa_resolver.specs.Structure.{ReachesItself, IsFirstCycle, HasNoCycle};
+ghost use Rattle.pepa_resolver.specs.Structure.{ReachesItself};
 ghost use Rattle.pepa_resolver.specs.Graphs.{EdgeOf, AreBelow, HasEdgesBelow, IsMarked, IsReached, IsTableOf};
 ghost use Rattle.pepa_resolver.specs.Marking.{IsMarking};
+ghost use Rattle.pepa_resolver.specs.Ranks.{AreRanks, HasReach, IsFound};
 
+use crate::orders::by_rank;
 use sqlite_items::Items;
 use std::alloc::{AllocError, Global};
+
+/// What is found of the constants of a graph.
+#[derive(Drop)]
+pub(crate) enum Found {
+    /// The least one that reaches itself.
+    Cycle(u32),
+    /// None does: all of them, each behind those that its edges lead to.
+    Order(Items<u32>),
+}
 
 /// Marks the targets, and puts those that were not marked behind the queue.
 fn mark(seen: &mut Items<bool>, queue: &mut Items<u32>, targets: &[u32]) -> Result<(), AllocError>
@@ -46,15 +58,25 @@ pub(crate) fn reached(
     Ok(seen)
 }
 
-/// Whether edges lead from the constant back to it.
-fn reaches_itself(alloc: Global, edges: &[Items<u32>], constant: usize) -> Result<bool, AllocError>
+/// How many constants are marked.
+fn count_marked(table: &[bool]) -> usize
+    ensures { result ≡ count_by (λ marked. marked) table.now }
+{
+    table.iter().filter(|marked| **marked).count()
+}
+
+/// How many constants edges lead to from this one, unless they lead back to it.
+fn reach(alloc: Global, edges: &[Items<u32>], constant: usize) -> Result<Option<usize>, AllocError>
     requires edges_within { HasEdgesBelow (length edges.now) edges.now }
     requires constant_within { constant < length edges.now }
-    ensures yes { IfOk result (λ reaches. IsTrue reaches → ReachesItself (EdgeOf edges.now) constant) }
-    ensures no { IfOk result (λ reaches. ReachesItself (EdgeOf edges.now) constant → IsTrue reaches) }
+    ensures { IfOk result
+        (λ reach. MatchOption reach (ReachesItself (EdgeOf edges.now) constant) (HasReach edges.now constant)) }
 {
     let table = reached(alloc, edges, edges[constant].as_slice())?;
-    Ok(table.as_slice()[constant])
+    if table.as_slice()[constant] {
+        return Ok(None);
+    }
+    Ok(Some(count_marked(table.as_slice())))
 }
 
 /// Counts each target once more.
@@ -116,80 +138,82 @@ fn uncounted(alloc: Global, counts: &[usize]) -> Result<Items<u32>, AllocError>
     Ok(free)
 }
 
-/// Places of the constants, each one's in front of those of its successors where that can be.
-fn places(alloc: Global, edges: &[Items<u32>]) -> Result<Items<usize>, AllocError>
+/// Ranks of the constants, each one's above those of its successors where that can be.
+fn likely_ranks(alloc: Global, edges: &[Items<u32>]) -> Result<Items<usize>, AllocError>
     requires edges_within { HasEdgesBelow (length edges.now) edges.now }
     requires few { length edges.now < 4294967296 }
-    ensures { IfOk result (λ table. length table ≡ length edges.now) }
+    ensures { IfOk result (λ ranks. length ranks ≡ length edges.now) }
 {
     let mut counts = incoming(alloc, edges)?;
     let mut queue = uncounted(alloc, counts.as_slice())?;
-    let mut table = Items::from_vec(vec![in alloc; 0; edges.len()]?);
+    let mut ranks = Items::from_vec(vec![in alloc; 0; edges.len()]?);
     for place in 0..edges.len() {
         if place >= queue.len() {
             break;
         }
         let next = queue.as_slice()[place] as usize;
-        table.set(next, place);
+        ranks.set(next, edges.len() - place);
         release_targets(&mut counts, &mut queue, edges[next].as_slice())?;
     }
-    Ok(table)
+    Ok(ranks)
 }
 
-/// Whether each target has a place behind this one.
-fn are_behind(places: &[usize], place: usize, targets: &[u32]) -> bool
-    requires { AreBelow (length places.now) targets.now }
-    ensures { IsTrue result → (d : ℕ) → Contains targets.now d → place < slice_index places.now d }
+/// Whether each target has a rank below this one.
+fn are_lower(ranks: &[usize], rank: usize, targets: &[u32]) -> bool
+    requires { AreBelow (length ranks.now) targets.now }
+    ensures { IsTrue result → (d : ℕ) → Contains targets.now d → slice_index ranks.now d < rank }
 {
     for target in targets {
-        if place >= places[*target as usize] {
+        if ranks[*target as usize] >= rank {
             return false;
         }
     }
     true
 }
 
-/// Whether the places rise along each edge.
-fn do_rise(edges: &[Items<u32>], places: &[usize]) -> bool
+/// Whether the ranks fall along each edge.
+fn do_fall(edges: &[Items<u32>], ranks: &[usize]) -> bool
     requires edges_within { HasEdgesBelow (length edges.now) edges.now }
-    requires one_each { length places.now ≡ length edges.now }
-    ensures { IsTrue result → HasNoCycle (EdgeOf edges.now) }
+    requires one_each { length ranks.now ≡ length edges.now }
+    ensures { IsTrue result → AreRanks (EdgeOf edges.now) (length edges.now) ranks.now }
 {
     for at in 0..edges.len() {
-        if !are_behind(places, places[at], edges[at].as_slice()) {
+        if !are_lower(ranks, ranks[at], edges[at].as_slice()) {
             return false;
         }
     }
     true
 }
 
-/// The least constant that reaches itself, where none is known to.
-fn search_cycle(alloc: Global, edges: &[Items<u32>]) -> Result<Option<u32>, AllocError>
+/// What is found of the constants by what is reached from each, which falls along each edge where none reaches itself.
+fn search_by_reach(alloc: Global, edges: &[Items<u32>]) -> Result<Found, AllocError>
     requires edges_within { HasEdgesBelow (length edges.now) edges.now }
     requires few { length edges.now < 4294967296 }
-    ensures { IfOk result
-        (λ found. MatchOption found (HasNoCycle (EdgeOf edges.now)) (IsFirstCycle (EdgeOf edges.now))) }
+    ensures { IfOk result (IsFound (EdgeOf edges.now) (length edges.now)) }
 {
+    let mut ranks = Items::new(alloc);
     for constant in 0..edges.len() {
-        if reaches_itself(alloc, edges, constant)? {
-            return Ok(Some(constant as u32));
+        match reach(alloc, edges, constant)? {
+            Some(reach) => ranks.push(reach)?,
+            None => return Ok(Found::Cycle(constant as u32)),
         }
     }
-    Ok(None)
+    let order = by_rank(alloc, ranks.as_slice())?;
+    Ok(Found::Order(order))
 }
 
-/// The least constant that reaches itself.
+/// The least constant that reaches itself, or an order of the constants.
 ///
-/// It takes about as long as there are constants and edges where there is none.
-pub(crate) fn first_cycle(alloc: Global, edges: &[Items<u32>]) -> Result<Option<u32>, AllocError>
+/// It takes little more time than there are constants and edges where none reaches itself.
+pub(crate) fn search(alloc: Global, edges: &[Items<u32>]) -> Result<Found, AllocError>
     requires edges_within { HasEdgesBelow (length edges.now) edges.now }
     requires few { length edges.now < 4294967296 }
-    ensures { IfOk result
-        (λ found. MatchOption found (HasNoCycle (EdgeOf edges.now)) (IsFirstCycle (EdgeOf edges.now))) }
+    ensures { IfOk result (IsFound (EdgeOf edges.now) (length edges.now)) }
 {
-    let table = places(alloc, edges)?;
-    if do_rise(edges, table.as_slice()) {
-        return Ok(None);
+    let ranks = likely_ranks(alloc, edges)?;
+    if do_fall(edges, ranks.as_slice()) {
+        let order = by_rank(alloc, ranks.as_slice())?;
+        return Ok(Found::Order(order));
     }
-    search_cycle(alloc, edges)
+    search_by_reach(alloc, edges)
 }

@@ -14,7 +14,7 @@ use crate::named::NamedProcess;
 use crate::names::Names;
 use crate::naming::{NamedFile, name_processes};
 use crate::source::Source;
-use crate::structure::{StructureEnd, check_structure};
+use crate::structure::{Structure, StructureEnd, check_structure};
 use indexmap::IndexMap;
 use pepa_lexer::Token;
 use pepa_model::Name;
@@ -23,7 +23,9 @@ use sqlite_items::Items;
 use std::alloc::Global;
 
 /// What the checks up to the structure find of a file: the names of its lines and of its action types, whose positions are
-/// their numbers, the values of its rate lines, and its processes with numbers in place of names.
+/// their numbers, the values of its rate lines, its processes with numbers in place of names, which of its constants are
+/// compound, and two orders of its constants, along which what a constant's body comes to can be made from what those before
+/// it came to.
 #[derive(Drop)]
 pub struct StructuredFile {
     pub names: Names,
@@ -34,6 +36,12 @@ pub struct StructuredFile {
     /// What the constants stand for, by number.
     pub bodies: Items<NamedProcess>,
     pub system: NamedProcess,
+    /// Which constants are compound, by number.
+    pub compounds: Items<bool>,
+    /// The constants, each compound one behind those in its body.
+    pub compound_order: Items<u32>,
+    /// The constants, each sequential one behind those that stand in its body behind no activity.
+    pub sequential_order: Items<u32>,
 }
 
 /// The index of the name of a constant's line.
@@ -73,7 +81,7 @@ pub fn check_names_rates_and_structure(
     let source = Source { tokens, input };
     let numbered = name_processes(alloc, tree, &source, &checked)?;
     match check_structure(alloc, numbered.bodies.as_slice(), &numbered.system) {
-        Ok(()) => Ok(structured(checked, numbered)),
+        Ok(structure) => Ok(structured(checked, numbered, structure)),
         Err(StructureEnd::NotSequential(at)) => {
             Err(refusal(&source, CheckCause::NotSequential, at))
         }
@@ -90,8 +98,17 @@ pub fn check_names_rates_and_structure(
 }
 
 /// What the checks have found, in one.
-fn structured(checked: NamesAndRates, numbered: NamedFile) -> StructuredFile
-    ensures { result ≡ record { names = checked.names; values = checked.values; actions = numbered.actions; bodies = numbered.bodies; system = numbered.system } }
+fn structured(checked: NamesAndRates, numbered: NamedFile, structure: Structure) -> StructuredFile
+    ensures { result ≡ record {
+      names = checked.names;
+      values = checked.values;
+      actions = numbered.actions;
+      bodies = numbered.bodies;
+      system = numbered.system;
+      compounds = structure.compounds;
+      compound_order = structure.compound_order;
+      sequential_order = structure.sequential_order;
+    } }
 {
     StructuredFile {
         names: checked.names,
@@ -99,5 +116,8 @@ fn structured(checked: NamesAndRates, numbered: NamedFile) -> StructuredFile
         actions: numbered.actions,
         bodies: numbered.bodies,
         system: numbered.system,
+        compounds: structure.compounds,
+        compound_order: structure.compound_order,
+        sequential_order: structure.sequential_order,
     }
 }

@@ -13,6 +13,7 @@ mod named;
 mod names;
 mod naming;
 mod numbers;
+mod orders;
 mod sets;
 mod sites;
 mod source;

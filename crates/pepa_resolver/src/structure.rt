@@ -1,14 +1,15 @@
 //! The structure of processes: what has to be sequential, and constants that reach themselves.
-ghost use Rattle.std.specs.Prelude.{◌≡◌, ℕ, ◌≤◌, ◌++◌, false, length, IfOk, OnOk, MatchOption, MatchResult, slice_get, unwrap_or};
+ghost use Rattle.std.specs.Prelude.{◌≡◌, ℕ, ◌≤◌, ◌++◌, false, length, IfOk, OnOk, MatchResult, slice_get, unwrap_or};
 ghost use Rattle.pepa_resolver.specs.Named.{Named, constants_named, unguarded as unguarded_named};
-ghost use Rattle.pepa_resolver.specs.Structure.{IsCompound, NotSequentialAt, CompoundEdge, UnguardedEdge, IsFirstCycle, HasNoCycle};
+ghost use Rattle.pepa_resolver.specs.Structure.{IsCompound, NotSequentialAt, CompoundEdge, UnguardedEdge};
 ghost use Rattle.pepa_resolver.specs.Graphs.{AreBelow, IsTableOf};
 ghost use Rattle.pepa_resolver.specs.NamedTypes.{named_of, bodies_of, HasConstantsBelow};
 ghost use Rattle.pepa_resolver.specs.Finding.{Finds, least_of};
-ghost use Rattle.pepa_resolver.specs.StructureAnswers.{TellsParts, fault_of, HasTheEdges, IsStructured, IsStructureEnd};
+ghost use Rattle.pepa_resolver.specs.Ranks.{IsFound};
+ghost use Rattle.pepa_resolver.specs.StructureAnswers.{TellsParts, fault_of, HasTheEdges, IsStructureOf, IsStructureEnd};
 
 use crate::compounds::compound_table;
-use crate::cycles::first_cycle;
+use crate::cycles::{Found, search};
 use crate::least::least;
 use crate::named::NamedProcess;
 use sqlite_items::Items;
@@ -35,6 +36,17 @@ impl From<AllocError> for StructureEnd {
     fn from(_error: AllocError) -> StructureEnd {
         StructureEnd::Memory
     }
+}
+
+/// What is found of processes whose structure is one that a model can have.
+#[derive(Drop)]
+pub(crate) struct Structure {
+    /// Which constants are compound.
+    pub(crate) compounds: Items<bool>,
+    /// The constants, each compound one behind those in its body.
+    pub(crate) compound_order: Items<u32>,
+    /// The constants, each sequential one behind those that stand in its body behind no activity.
+    pub(crate) sequential_order: Items<u32>,
 }
 
 /// What is told of one process.
@@ -215,39 +227,37 @@ fn unguarded_edges(
     Ok(edges)
 }
 
-/// The least compound constant that reaches itself.
-fn model_cycle(
+/// What is found of the compound constants: the least one that reaches itself, or an order.
+fn search_compound(
     alloc: Global,
     table: &[bool],
     bodies: &[NamedProcess],
-) -> Result<Option<u32>, AllocError>
+) -> Result<Found, AllocError>
     requires few { length bodies.now ≤ 1024 }
     requires below { HasConstantsBelow (length bodies.now) (bodies_of bodies.now) }
     requires compounds { IsTableOf (IsCompound (bodies_of bodies.now)) table.now }
     requires sizes { length table.now ≡ length bodies.now }
-    ensures { IfOk result
-        (λ found. MatchOption found (HasNoCycle (CompoundEdge (bodies_of bodies.now))) (IsFirstCycle (CompoundEdge (bodies_of bodies.now)))) }
+    ensures { IfOk result (IsFound (CompoundEdge (bodies_of bodies.now)) (length bodies.now)) }
 {
     let edges = compound_edges(alloc, table, bodies)?;
-    let found = first_cycle(alloc, edges.as_slice())?;
+    let found = search(alloc, edges.as_slice())?;
     Ok(found)
 }
 
-/// The least sequential constant that reaches itself with no activity between.
-fn unguarded_cycle(
+/// What is found of the sequential constants: the least one that reaches itself with no activity between, or an order.
+fn search_sequential(
     alloc: Global,
     table: &[bool],
     bodies: &[NamedProcess],
-) -> Result<Option<u32>, AllocError>
+) -> Result<Found, AllocError>
     requires few { length bodies.now ≤ 1024 }
     requires below { HasConstantsBelow (length bodies.now) (bodies_of bodies.now) }
     requires compounds { IsTableOf (IsCompound (bodies_of bodies.now)) table.now }
     requires sizes { length table.now ≡ length bodies.now }
-    ensures { IfOk result
-        (λ found. MatchOption found (HasNoCycle (UnguardedEdge (bodies_of bodies.now))) (IsFirstCycle (UnguardedEdge (bodies_of bodies.now)))) }
+    ensures { IfOk result (IsFound (UnguardedEdge (bodies_of bodies.now)) (length bodies.now)) }
 {
     let edges = unguarded_edges(alloc, table, bodies)?;
-    let found = first_cycle(alloc, edges.as_slice())?;
+    let found = search(alloc, edges.as_slice())?;
     Ok(found)
 }
 
@@ -256,23 +266,28 @@ pub(crate) fn check_structure(
     alloc: Global,
     bodies: &[NamedProcess],
     system: &NamedProcess,
-) -> Result<(), StructureEnd>
+) -> Result<Structure, StructureEnd>
     requires few { length bodies.now ≤ 1024 }
     requires below { HasConstantsBelow (length bodies.now) (bodies_of bodies.now) }
     ensures { MatchResult result
-        (λ _. IsStructured (bodies_of bodies.now) (named_of system.now))
+        (IsStructureOf (bodies_of bodies.now) (named_of system.now) (length bodies.now))
         (IsStructureEnd (bodies_of bodies.now) (named_of system.now)) }
 {
     let compounds = compound_table(alloc, bodies)?;
-    let table = compounds.as_slice();
-    if let Some(at) = first_not_sequential(table, bodies, system) {
+    if let Some(at) = first_not_sequential(compounds.as_slice(), bodies, system) {
         return Err(StructureEnd::NotSequential(at));
     }
-    if let Some(constant) = model_cycle(alloc, table, bodies)? {
-        return Err(StructureEnd::ModelCycle(constant));
-    }
-    if let Some(constant) = unguarded_cycle(alloc, table, bodies)? {
-        return Err(StructureEnd::Unguarded(constant));
-    }
-    Ok(())
+    let compound_order = match search_compound(alloc, compounds.as_slice(), bodies)? {
+        Found::Cycle(constant) => return Err(StructureEnd::ModelCycle(constant)),
+        Found::Order(order) => order,
+    };
+    let sequential_order = match search_sequential(alloc, compounds.as_slice(), bodies)? {
+        Found::Cycle(constant) => return Err(StructureEnd::Unguarded(constant)),
+        Found::Order(order) => order,
+    };
+    Ok(Structure {
+        compounds,
+        compound_order,
+        sequential_order,
+    })
 }

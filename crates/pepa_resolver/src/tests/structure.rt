@@ -195,3 +195,35 @@ fn numbers(rt: HostRuntime) -> Result<(), Fail> {
     }
     Ok(())
 }
+
+// The first number stands in front of the other one.
+fn stands_before(order: &[u32], first: u32, behind: u32) -> bool {
+    for constant in order {
+        if *constant == behind {
+            return false;
+        }
+        if *constant == first {
+            return true;
+        }
+    }
+    false
+}
+
+// A and B lead on to C behind no activity. S, R and Q are compound, and lead on from one to the next, C and A.
+#[test]
+fn orders(rt: HostRuntime) -> Result<(), Fail> {
+    let text =
+        b"A = (a,1).A + B; B = C + (b,1).A; S = R || R; R = Q/{a}; C = (c,1).A; Q = C <a> A; S";
+    let found = check(&rt, rt.alloc(), text)??;
+    let compounds = [false, false, true, true, false, true];
+    assert_eq!(rt; found.compounds.as_slice(), compounds.as_slice());
+    assert_eq!(rt; found.compound_order.len(), 6);
+    for (first, behind) in [(3, 2), (5, 3), (4, 5), (0, 5)] {
+        assert!(rt; stands_before(found.compound_order.as_slice(), first, behind));
+    }
+    assert_eq!(rt; found.sequential_order.len(), 6);
+    for (first, behind) in [(1, 0), (4, 1)] {
+        assert!(rt; stands_before(found.sequential_order.as_slice(), first, behind));
+    }
+    Ok(())
+}

@@ -3,6 +3,7 @@ use Rattle.pepa_resolver.proofs.Structured.{few_bodies, constants_below, part_wi
 use Rattle.pepa_resolver.specs.NamedTypes.{named_of}
 use Rattle.pepa_resolver.specs.declared.structure.StructureEnd.TheVariants.{Unguarded}
 use Rattle.pepa_resolver.proofs.Stops.{model_cycle_stops, unguarded_stops, same_end}
+use Rattle.pepa_resolver.proofs.WellBuilt.{well_built}
 use Rattle.pepa_resolver.proofs.file_structure.check_names_rates_and_structure.Goals as goal
 
 pub check_structure-requires-clause-few : goal.check_structure-requires-clause-few
@@ -12,6 +13,10 @@ check_structure-requires-clause-few c =
 pub check_structure-requires-clause-below : goal.check_structure-requires-clause-below
 check_structure-requires-clause-below c =
     rw c.as_slice.ensures (constants_below c.args.input.now c.args.tokens.now (file_node_of c.args.tree.now) c.in_ok-checked.checked.values c.in_ok-numbered.numbered c.in_ok-numbered.ensures)
+
+pub returns-in-Ok : goal.returns-in-Ok
+returns-in-Ok c =
+    well_built c.args.input.now c.args.tokens.now (file_node_of c.args.tree.now) c.in_ok-checked.checked c.in_ok-numbered.numbered c.as_slice.result.now c.in-Ok.structure c.structured.result c.in_ok-checked.ensures c.in_ok-numbered.ensures c.as_slice.ensures (rw c.in-Ok.structure-is at c.in-Ok.ensures) c.structured.ensures
 
 pub refusal-requires : goal.refusal-requires
 refusal-requires c =

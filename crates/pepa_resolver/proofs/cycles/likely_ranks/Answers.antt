@@ -2,11 +2,11 @@ use Rattle.std.proofs.Common.{◌<◌, ap, ◌∙◌, subst, get_or, length, len
 use Rattle.pepa_resolver.specs.Graphs.{AreBelow}
 use Rattle.pepa_resolver.proofs.Marks.{below_at}
 use Rattle.pepa_resolver.proofs.Reaching.{read_below}
-use Rattle.pepa_resolver.proofs.cycles.places.Goals as goal
+use Rattle.pepa_resolver.proofs.cycles.likely_ranks.Goals as goal
 
 pub loop-place-init : goal.loop-place-init
 loop-place-init c = record {
-  table = omega (arith, ap length c.from_vec-table.ensures, c.in_ok-vec.ensures.len);
+  ranks = omega (arith, ap length c.from_vec-ranks.ensures, c.in_ok-vec.ensures.len);
   counts = c.in_ok-counts.ensures;
   queue = subst (λ n. AreBelow n c.in_ok-queue.queue) (ap length c.as_slice.ensures ∙ c.in_ok-counts.ensures) c.in_ok-queue.ensures;
 }
@@ -32,7 +32,7 @@ release_targets-requires-clause-queue_below c = rw c.loop-place.invariant.counts
 
 pub loop-place-preserved : goal.loop-place-preserved
 loop-place-preserved c = record {
-  table = ap length c.set.ensures ∙ length-set _ _ _ ∙ c.loop-place.invariant.table;
+  ranks = ap length c.set.ensures ∙ length-set _ _ _ ∙ c.loop-place.invariant.ranks;
   counts = c.in_ok-release_targets.ensures.0 ∙ c.loop-place.invariant.counts;
   queue = subst (λ n. AreBelow n c.release_targets.new.queue) c.loop-place.invariant.counts c.in_ok-release_targets.ensures.1;
 }
