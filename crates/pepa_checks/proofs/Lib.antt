@@ -18,3 +18,4 @@ pub mod BuiltFiles
 pub mod LeafClosure
 pub mod ModelShapes
 pub mod IsModels
+pub mod Indices

@@ -55,7 +55,7 @@ each_inside input tokens tree is =
     let count : length (file_spelled is.file) ≡ length tokens = ap length (sym is.spelled) ∙ length-map tokens (terminal_of input) in
     subst (EachInFile (Inside 0 (length tokens))) (sym is.tree_is) (subst (λ n. EachInFile (Inside 0 n) (file_tree is.file)) count (file_inside is.file))
 
-first_each : (P : ℕ → Type 0) (naming : Naming) (process : ProcessNode) → EachInProcess P process → P (first_at (named naming process))
+pub first_each : (P : ℕ → Type 0) (naming : Naming) (process : ProcessNode) → EachInProcess P process → P (first_at (named naming process))
 first_each P naming (ConstantAt at) each = each
 first_each P naming (PrefixAt at rate next) each = each.0
 first_each P naming (ChoiceOf left right) each = first_each P naming left each.0
