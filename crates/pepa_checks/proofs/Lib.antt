@@ -19,3 +19,4 @@ pub mod LeafClosure
 pub mod ModelShapes
 pub mod IsModels
 pub mod Indices
+pub mod OneModel
