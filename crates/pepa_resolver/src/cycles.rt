@@ -185,7 +185,7 @@ fn do_fall(edges: &[Items<u32>], ranks: &[usize]) -> bool
     true
 }
 
-/// What is found of the constants by what is reached from each, which falls along each edge where none reaches itself.
+/// What is found by all that each constant leads on to: where none reaches itself, its number falls along each edge.
 fn search_by_reach(alloc: Global, edges: &[Items<u32>]) -> Result<Found, AllocError>
     requires edges_within { HasEdgesBelow (length edges.now) edges.now }
     requires few { length edges.now < 4294967296 }
@@ -204,7 +204,7 @@ fn search_by_reach(alloc: Global, edges: &[Items<u32>]) -> Result<Found, AllocEr
 
 /// The least constant that reaches itself, or an order of the constants.
 ///
-/// It takes little more time than there are constants and edges where none reaches itself.
+/// Where none reaches itself, it takes about as long as there are constants and edges, and a sort of the constants.
 pub(crate) fn search(alloc: Global, edges: &[Items<u32>]) -> Result<Found, AllocError>
     requires edges_within { HasEdgesBelow (length edges.now) edges.now }
     requires few { length edges.now < 4294967296 }
