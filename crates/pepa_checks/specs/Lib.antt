@@ -3,3 +3,5 @@ pub mod Activities
 pub mod Summands
 pub mod Limits
 pub mod CheckedFiles
+pub mod LeafCounts
+pub mod MixedLists
