@@ -5,3 +5,4 @@ pub mod Limits
 pub mod CheckedFiles
 pub mod LeafCounts
 pub mod MixedLists
+pub mod ActivityLists

@@ -2,7 +2,7 @@
 ghost use Rattle.std.specs.Prelude.{◌≡◌, ◌+◌, ◌<◌, ◌↔◌, List, ℕ, length, IfOk, IsTrue, slice_index};
 ghost use Rattle.pepa_model.specs.Expanded.{Expanded, Expands, leaves_in};
 ghost use Rattle.pepa_resolver.specs.Named.{constants_named};
-ghost use Rattle.pepa_resolver.specs.NamedTypes.{named_of, bodies_of, HasConstantsBelow};
+ghost use Rattle.pepa_resolver.specs.NamedTypes.{named_of, bodies_of};
 ghost use Rattle.pepa_resolver.specs.Structure.{IsCompound, CompoundEdge};
 ghost use Rattle.pepa_resolver.specs.Graphs.{AreBelow, IsTableOf, IsOrder};
 ghost use Rattle.pepa_checks.specs.Outline.{is_compound as is_compound_constant, outline_with};
@@ -71,8 +71,7 @@ pub(crate) fn has_many_leaves(
 ) -> Result<bool, AllocError>
     requires sizes { length compounds.now ≡ length bodies.now }
     requires compounds { IsTableOf (IsCompound (bodies_of bodies.now)) compounds.now }
-    requires below { HasConstantsBelow (length bodies.now) (bodies_of bodies.now) }
-    requires system_below { AreBelow (length bodies.now) (constants_named (named_of system.now)) }
+    requires below { AreBelow (length bodies.now) (constants_named (named_of system.now)) }
     requires order { IsOrder (CompoundEdge (bodies_of bodies.now)) (length bodies.now) order.now }
     ensures { IfOk result (λ many. (sets : List (List ℕ)) (tree : Expanded)
         → Expands (outline_with sets compounds.now (bodies_of bodies.now) (named_of system.now)).definitions (outline_with sets compounds.now (bodies_of bodies.now) (named_of system.now)).system tree

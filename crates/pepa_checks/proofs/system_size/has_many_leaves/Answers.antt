@@ -63,4 +63,4 @@ returns c =
     let count = subst (λ (xs : List ℕ). IsCountIn compounds xs (constants_named system) system c.count_leaves-count-2.result) c.as_slice-2.ensures c.count_leaves-count-2.ensures in
     λ sets tree expands.
     is_many _ c.count_leaves-count-2.result
-    (count sets bodies (all_counted compounds bodies sets (length c.args.bodies.now) c.args.order.now counts c.loop-constant.constant-index (constants_named system) c.requires.order c.requires.system_below c.loop-constant-test.false (c.loop-constant.invariant.counted sets)) tree expands)
+    (count sets bodies (all_counted compounds bodies sets (length c.args.bodies.now) c.args.order.now counts c.loop-constant.constant-index (constants_named system) c.requires.order c.requires.below c.loop-constant-test.false (c.loop-constant.invariant.counted sets)) tree expands)
