@@ -1,19 +1,19 @@
 -- What the counts of activities and of leaves, and the first mixed activity, say of a file's outline.
-use Rattle.std.proofs.Common.{◌≡◌, ℕ, zero, suc, ◌<◌, ◌≤◌, ◌⊎◌, inl, inr, Bool, true, false, List, [], ◌∷◌, map, length, refl, sym, ◌∙◌, ap, subst, arith, Some, get_or, option_map}
+use Rattle.std.proofs.Common.{◌≡◌, ℕ, zero, suc, ◌<◌, ◌≤◌, Bool, false, List, [], ◌∷◌, length, refl, sym, ◌∙◌, ap, subst, arith, Some, get_or, option_map}
 use Rattle.std.specs.Prelude.{◌↔◌, IsTrue, slice_get, sum_by}
 use Rattle.std.specs.List.{AllZip}
 use Rattle.std.proofs.lemmas.Bool.{false≢true}
 use Rattle.std.proofs.lemmas.Option.{slice_get_within, slice_get-get_or, slice_get-map}
 use Rattle.pepa_model.specs.Expression.{Expression, Const, Definition}
 use Rattle.pepa_model.specs.Opened.{Opened, Opens, moves}
-use Rattle.pepa_model.specs.Expanded.{Expanded, LeafTree, ConstTree, CoopTree, HideTree, Expands, leaves_in}
+use Rattle.pepa_model.specs.Expanded.{Expanded, Expands, leaves_in}
 use Rattle.pepa_model.specs.PepaModel.{IsMixedAt, AreUnmixed}
 use Rattle.pepa_model.specs.declared.term.Activity.{Activity}
 use Rattle.pepa_resolver.specs.Named.{Named}
 use Rattle.pepa_checks.specs.declared.summand.Performed.{Performed}
 use Rattle.pepa_checks.specs.Outline.{Outline}
-use Rattle.pepa_checks.specs.Activities.{activities_in, sites, HasMixed, HasNoMixed, IsMixedLeaf, IsFirstMixed}
-use Rattle.pepa_checks.specs.Summands.{IsPerformed, IsPerformedBy, ArePerformed}
+use Rattle.pepa_checks.specs.Activities.{HasMixed, HasNoMixed, IsMixedLeaf, IsFirstMixed}
+use Rattle.pepa_checks.specs.Summands.{IsPerformedBy, ArePerformed}
 use Rattle.pepa_checks.specs.Limits.{HasManyActivities, HasManyLeaves}
 use Rattle.pepa_checks.specs.ActivityLists.{OpensIntoMany}
 use Rattle.pepa_checks.specs.MixedLists.{activities, IsFirstMixedOf, HaveNoMixed, IsFirstMixedIn}

@@ -1,15 +1,15 @@
 -- How many leaves the compound constants have, as one after another is counted.
-use Rattle.std.proofs.Common.{◌≡◌, ℕ, zero, suc, ◌+◌, ◌<◌, ◌≤◌, ◌⊎◌, inl, inr, min, Bool, true, false, cond, List, [], ◌∷◌, ◌++◌, length, get_or, set, take, drop, Option, Some, None, refl, sym, ◌∙◌, ap, subst, arith, get_or-set_same, get_or-set_other, take-append-drop, option_map}
+use Rattle.std.proofs.Common.{◌≡◌, ℕ, zero, suc, ◌+◌, ◌<◌, ◌≤◌, inl, inr, Bool, true, false, List, [], ◌∷◌, ◌++◌, length, get_or, set, take, drop, Some, refl, sym, ◌∙◌, ap, subst, arith, get_or-set_same, get_or-set_other, take-append-drop, option_map}
 use lib.Dec.{ltb}
-use Rattle.std.specs.Prelude.{◌↔◌, IsTrue, slice_get, if◌then◌else◌, unwrap_or}
+use Rattle.std.specs.Prelude.{◌↔◌, IsTrue, slice_get, if◌then◌else◌}
 use Rattle.std.specs.List.{Contains}
 use Rattle.std.proofs.lemmas.Bool.{cases_eq, false≢true, ltb-true, lt-ltb}
 use Rattle.std.proofs.lemmas.List.{take_all, take_more, drop_more}
 use Rattle.std.proofs.lemmas.List.Elements.{Contains-append_left, Contains-append_right, Contains-push, Contains-push_cases, Contains-get_or}
-use Rattle.std.proofs.lemmas.Option.{slice_get_within, slice_get-get_or, slice_get-map, slice_get_read, same_Some, get_or_from_slice_get}
-use Rattle.pepa_model.specs.Expression.{Expression, Const, Shape, LeafShape, ConstShape, CoopShape, HideShape, Definition, Sequentially, Compoundly, IsCompound}
-use Rattle.pepa_model.specs.Expanded.{Expanded, LeafTree, ConstTree, CoopTree, HideTree, Expands, leaves_in}
-use Rattle.pepa_resolver.specs.Named.{Named, NamedConstant, NamedPrefix, NamedChoice, NamedCoop, NamedHide, constants_named}
+use Rattle.std.proofs.lemmas.Option.{slice_get-get_or, slice_get-map, slice_get_read, same_Some, get_or_from_slice_get}
+use Rattle.pepa_model.specs.Expression.{Expression, Const, Shape, LeafShape, ConstShape, CoopShape, HideShape, Definition, Compoundly, IsCompound}
+use Rattle.pepa_model.specs.Expanded.{LeafTree, ConstTree, CoopTree, HideTree, Expands, leaves_in}
+use Rattle.pepa_resolver.specs.Named.{Named, NamedConstant, NamedCoop, NamedHide, constants_named}
 use Rattle.pepa_resolver.specs.declared.named.NamedProcess.{NamedProcess}
 use Rattle.pepa_resolver.specs.NamedTypes.{named_of, bodies_of}
 use Rattle.pepa_resolver.specs.Graphs.{IsOrder, IsTableOf, AreBelow}

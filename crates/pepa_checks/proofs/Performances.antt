@@ -1,16 +1,15 @@
 -- What leaves perform is what their opened expressions do.
-use Rattle.std.proofs.Common.{◌≡◌, ℕ, ◌+◌, ◌<◌, ◌≤◌, inl, inr, ◌⊎◌, Bool, true, false, ◌||◌, List, [], ◌∷◌, ◌++◌, map, length, get_or, set, take, drop, refl, sym, ◌∙◌, ap, subst, arith, Some, append-nil, length-set, get_or-set_same, get_or-set_other}
-use Rattle.std.specs.Prelude.{slice_get, slice_index_or, flat_map, sum_by}
-use Rattle.std.specs.List.{Contains, AllZip}
-use Rattle.std.proofs.lemmas.Bool.{cases_eq, false≢true}
-use Rattle.std.proofs.lemmas.List.{map-append, get_or_default, length-map}
+use Rattle.std.proofs.Common.{◌≡◌, ℕ, ◌<◌, Bool, true, false, ◌||◌, List, [], ◌∷◌, ◌++◌, map, length, get_or, set, refl, sym, ◌∙◌, ap, subst, arith, Some, append-nil}
+use Rattle.std.specs.Prelude.{slice_get, slice_index_or}
+use Rattle.std.specs.List.{Contains}
+use Rattle.std.proofs.lemmas.Bool.{false≢true}
+use Rattle.std.proofs.lemmas.List.{map-append, get_or_default}
 use Rattle.std.proofs.lemmas.List.Concat.{flat_map-append}
 use Rattle.std.proofs.lemmas.List.Elements.{Contains-append_left, Contains-append_right, Contains-push}
-use Rattle.std.proofs.lemmas.Option.{slice_get_within, slice_get-get_or, get_or_from_slice_get, same_Some}
+use Rattle.std.proofs.lemmas.Option.{slice_get_within, slice_get-get_or, get_or_from_slice_get}
 use Rattle.pepa_rates.specs.declared.rate.Rate.{Rate}
 use Rattle.pepa_model.specs.declared.term.Activity.{Activity}
-use Rattle.pepa_model.specs.Expression.{Expression, Const, Prefixed, Chosen, Definition, Sequentially, Defines, LeafOf}
-use Rattle.pepa_model.specs.Derivation.{Among}
+use Rattle.pepa_model.specs.Expression.{Expression, Const, Prefixed, Chosen, Sequentially, Defines, LeafOf}
 use Rattle.pepa_model.specs.Opened.{Opened, OpenPrefix, OpenChoice, OpenConst, Opens, moves}
 use Rattle.pepa_resolver.specs.Named.{Named, NamedConstant, NamedPrefix, NamedChoice, NamedCoop, NamedHide, unguarded}
 use Rattle.pepa_resolver.specs.Structure.{has_system}
@@ -19,9 +18,9 @@ use Rattle.pepa_checks.specs.declared.summand.Performed.{Performed}
 use Rattle.pepa_checks.specs.declared.summand.Summand.{Summand}
 use Rattle.pepa_checks.specs.Outline.{Outline, expression_in, definition_in, definitions_in}
 use Rattle.pepa_checks.specs.Activities.{leaf_number, activity_in, activities_in, sites, IsFirstWritten}
-use Rattle.pepa_checks.specs.Summands.{summands_in, leaf_summands, AreSummandsOf, IsPerformed, IsPerformedBy}
+use Rattle.pepa_checks.specs.Summands.{summands_in, leaf_summands, IsPerformed, IsPerformedBy}
 use Rattle.pepa_checks.specs.ActivityLists.{LeafChoices, outline, written, constant_list, performed_by, performed_in}
-use Rattle.pepa_checks.proofs.LeafCounting.{DefinedBy, defined_by}
+use Rattle.pepa_checks.proofs.LeafCounting.{defined_by}
 use Rattle.pepa_checks.proofs.PlainProcesses.{plain_written, plain_body}
 
 abbrev act : Performed → Activity
@@ -108,9 +107,9 @@ module _ (outline : Outline) (bodies : List Named) (within : (c : ℕ) (e : Expr
       let e1 : x ≡ expression_in left = cc in
       let e2 : y ≡ expression_in right = cc in
       let before = answered left p (or_left (has_system left) (has_system right) plain) (subst (λ z. Opens outline.definitions z p) e1 first)
-          (λ d o among. answers d o (Contains-append_left (unguarded left) (unguarded right) d among)) in
+      (λ d o among. answers d o (Contains-append_left (unguarded left) (unguarded right) d among)) in
       let behind = answered right q (or_right (has_system left) (has_system right) plain) (subst (λ z. Opens outline.definitions z q) e2 second)
-          (λ d o among. answers d o (Contains-append_right (unguarded left) (unguarded right) d among)) in
+      (λ d o among. answers d o (Contains-append_right (unguarded left) (unguarded right) d among)) in
       let split = flat_map-append f (summands_in leaves left) (summands_in leaves right) in
       let one = performed_in constants lists (summands_in leaves left) in
       let two = performed_in constants lists (summands_in leaves right) in
@@ -207,7 +206,7 @@ module _ (compounds : List Bool) (order constants : List ℕ) (leaves : List (Li
         let chosen : chooser choices.bodies process ≡ by.body = ap (chooser choices.bodies) process_is ∙ body_read in
         let plain = plain_body compounds choices.bodies c by.body choices.table by.flag_is by.body_is in
         let known = answered file choices.bodies within_bodies constants lists by.body p plain (subst (λ z. Opens file.definitions z p) by.expression_is rest)
-            (λ d q among opens. answers_made made lists sound sizes d q opens (λ flag_is. ready d (subst (λ (x : Named). Contains (unguarded x) d) (sym chosen) among) flag_is)) in
+        (λ d q among opens. answers_made made lists sound sizes d q opens (λ flag_is. ready d (subst (λ (x : Named). Contains (unguarded x) d) (sym chosen) among) flag_is)) in
         let operands = ap (performed_in constants lists) (chooser_summands file.leaves choices.bodies process ∙ ap (summands_in file.leaves) chosen) in
         record {
           activities = ap (map act) operands ∙ known.activities;
@@ -222,7 +221,7 @@ module _ (compounds : List Bool) (order constants : List ℕ) (leaves : List (Li
         let plain = plain_written compounds choices.bodies choices.system choices.sequential process among in
         let chosen = chooser_other choices.bodies process other in
         let known = answered file choices.bodies within_bodies constants lists process opened plain opens
-            (λ d q inside opens_d. answers_made made lists sound sizes d q opens_d (λ flag_is. ready d (subst (λ (x : Named). Contains (unguarded x) d) (sym chosen) inside) flag_is)) in
+        (λ d q inside opens_d. answers_made made lists sound sizes d q opens_d (λ flag_is. ready d (subst (λ (x : Named). Contains (unguarded x) d) (sym chosen) inside) flag_is)) in
         let operands = ap (performed_in constants lists) (chooser_summands file.leaves choices.bodies process ∙ ap (summands_in file.leaves) chosen) in
         record {
           activities = ap (map act) operands ∙ known.activities;

@@ -1,14 +1,13 @@
 -- The processes whose expressions are leaves have no cooperation and no hiding.
-use Rattle.std.proofs.Common.{◌≡◌, ℕ, inl, inr, ◌⊎◌, Bool, true, false, ◌||◌, List, [], ◌∷◌, ◌++◌, length, refl, sym, ◌∙◌, ap, subst, arith, zero, Some}
+use Rattle.std.proofs.Common.{◌≡◌, ℕ, inl, inr, Bool, true, false, ◌||◌, List, [], ◌∷◌, ◌++◌, refl, sym, ◌∙◌, ap, subst, arith, zero, Some}
 use Rattle.std.specs.Prelude.{if◌then◌else◌, slice_get}
 use Rattle.std.specs.List.{Contains}
-use Rattle.std.proofs.lemmas.Bool.{false≢true}
 use Rattle.std.proofs.lemmas.List.Elements.{Contains-append_left, Contains-append_right, Contains-append_cases, Contains-push}
 use Rattle.pepa_rates.specs.declared.rate.Rate.{Rate}
 use Rattle.pepa_resolver.specs.Named.{Named, NamedConstant, NamedPrefix, NamedChoice, NamedCoop, NamedHide, sequential_parts}
 use Rattle.pepa_resolver.specs.Faults.{HasNone}
 use Rattle.pepa_resolver.specs.Structure.{has_system, IsCompound, NotSequentialAt}
-use Rattle.pepa_resolver.specs.Graphs.{IsTableOf, IsMarked}
+use Rattle.pepa_resolver.specs.Graphs.{IsTableOf}
 use Rattle.pepa_resolver.proofs.Sequentials.{contains_cons}
 use Rattle.pepa_checks.specs.Outline.{is_compound}
 use Rattle.pepa_checks.specs.Activities.{written_followers, written_components, written_in, written_leaves}

@@ -1,9 +1,9 @@
 -- The lists of leaves stay what the leaves perform, as one after another is made.
-use Rattle.std.proofs.Common.{◌≡◌, ℕ, zero, suc, ◌+◌, ◌<◌, ◌≤◌, inl, inr, ◌⊎◌, Bool, true, false, List, [], ◌∷◌, ◌++◌, map, length, get_or, set, take, drop, refl, sym, ◌∙◌, ap, subst, arith, Some, None, length-set, get_or-set_same, get_or-set_other, take-append-drop}
-use Rattle.std.specs.Prelude.{slice_get, slice_index_or, sum_by}
+use Rattle.std.proofs.Common.{◌≡◌, ℕ, zero, suc, ◌+◌, ◌<◌, ◌≤◌, inl, inr, Bool, true, false, List, [], ◌∷◌, ◌++◌, length, get_or, set, take, drop, refl, sym, ◌∙◌, ap, subst, arith, Some, length-set, get_or-set_same, get_or-set_other, take-append-drop}
+use Rattle.std.specs.Prelude.{slice_get, sum_by}
 use Rattle.std.specs.List.{Contains, AllZip}
 use Rattle.std.proofs.lemmas.Bool.{cases_eq, false≢true}
-use Rattle.std.proofs.lemmas.List.{drop_more, take_more, take_all, length-map}
+use Rattle.std.proofs.lemmas.List.{drop_more, take_more, length-map}
 use Rattle.std.proofs.lemmas.List.Elements.{Contains-push_cases}
 use Rattle.std.proofs.lemmas.List.Sums.{sum_by-cons}
 use Rattle.std.proofs.lemmas.Option.{slice_get_within, slice_get-get_or, slice_get_read, get_or_from_slice_get, same_Some}
@@ -19,9 +19,9 @@ use Rattle.pepa_checks.specs.declared.activities.Lists.{Lists}
 use Rattle.pepa_checks.specs.declared.activities.ActivitiesEnd.{ActivitiesEnd}
 use Rattle.pepa_checks.specs.declared.activities.ActivitiesEnd.TheVariants.{TooMany, Memory}
 use Rattle.pepa_checks.specs.Outline.{Outline}
-use Rattle.pepa_checks.specs.Activities.{activity_in, activities_in}
+use Rattle.pepa_checks.specs.Activities.{activity_in}
 use Rattle.pepa_checks.specs.Summands.{IsPerformed, IsPerformedBy, ArePerformed}
-use Rattle.pepa_checks.specs.ActivityLists.{LeafChoices, outline, written, OpensIntoMany, IsActivitiesEnd, performed_in, AreKept, MakesList, PassesMost}
+use Rattle.pepa_checks.specs.ActivityLists.{LeafChoices, outline, written, IsActivitiesEnd, performed_in, AreKept, MakesList, PassesMost}
 use Rattle.pepa_checks.proofs.ListsMaking.{marked_read}
 use Rattle.pepa_checks.proofs.Performances.{chooser, AreSound, IsReadyFor, performs, constant_leaf}
 
@@ -180,9 +180,9 @@ module _ (compounds : List Bool) (order constants : List ℕ) (leaves : List (Li
           let body_is = slice_get-get_or choices.bodies at (NamedConstant 0 at) within in
           let chosen : chooser choices.bodies process ≡ body = ap (chooser choices.bodies) process_is in
           let split : order ≡ take k order ++ at ∷ drop (k + 1) order =
-              sym (take-append-drop k order) ∙ (ap (λ xs. take k order ++ xs) (drop_more order k 0 low) ∙ ap (λ x. take k order ++ x ∷ drop (k + 1) order) (sym at_is)) in
+          sym (take-append-drop k order) ∙ (ap (λ xs. take k order ++ xs) (drop_more order k 0 low) ∙ ap (λ x. take k order ++ x ∷ drop (k + 1) order) (sym at_is)) in
           let edge : UnguardedEdge choices.bodies at d =
-              (λ compound. some_apart (sym flag_is ∙ choices.table.complete at compound), (body, body_is, subst (λ (x : Named). Contains (unguarded x) d) chosen among)) in
+          (λ compound. some_apart (sym flag_is ∙ choices.table.complete at compound), (body, body_is, subst (λ (x : Named). Contains (unguarded x) d) chosen among)) in
           made_before d (choices.in_order.behind (take k order) (drop (k + 1) order) at d split edge) flag
         where
           some_apart : Some false ≡ Some true → ⊥

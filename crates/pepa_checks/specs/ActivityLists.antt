@@ -1,5 +1,5 @@
 -- What leaves perform, list by list, from the operands of their choices.
-use Rattle.std.specs.Prelude.{◌≡◌, ℕ, zero, ◌<◌, ◌≤◌, ◌⊎◌, Bool, true, false, List, [], ◌∷◌, ◌++◌, map, flat_map, length, sum_by, slice_get, slice_set, slice_index, slice_index_or}
+use Rattle.std.specs.Prelude.{◌≡◌, ℕ, ◌<◌, ◌≤◌, ◌⊎◌, Bool, true, List, [], ◌∷◌, ◌++◌, flat_map, length, sum_by, slice_set, slice_index, slice_index_or}
 use Rattle.std.specs.List.{AllZip}
 use Rattle.pepa_model.specs.Opened.{Opened, Opens, moves}
 use Rattle.pepa_resolver.specs.Named.{Named}

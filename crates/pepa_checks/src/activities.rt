@@ -30,7 +30,7 @@ impl From<AllocError> for ActivitiesEnd {
     }
 }
 
-/// The number of the leaf that a sequential constant is.
+/// The number of the leaf that a sequential constant is. Each constant in a leaf is one.
 fn leaf_of(constants: &[u32], constant: u32) -> usize
     ensures { result ≡ slice_index constants.now constant }
 {

@@ -1,4 +1,4 @@
-use Rattle.std.proofs.Common.{◌≡◌, ◌≤◌, ◌+◌, ◌++◌, ◌<◌, length, take, ap, sym, ◌∙◌, subst, arith, List}
+use Rattle.std.proofs.Common.{◌≤◌, ◌++◌, length, ap, sym, ◌∙◌, subst, arith, List}
 use Rattle.std.proofs.lemmas.List.{take_all}
 use Rattle.pepa_checks.specs.declared.summand.Performed.{Performed}
 use Rattle.pepa_checks.specs.ActivityLists.{performed_by, performed_in}

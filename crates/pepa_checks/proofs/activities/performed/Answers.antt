@@ -1,12 +1,10 @@
-use Rattle.std.proofs.Common.{◌≡◌, ◌<◌, ℕ, Bool, List, false, length, get_or, take, Some, Err, refl, sym, ap, ◌∙◌, subst, arith}
-use Rattle.std.specs.Prelude.{slice_get}
+use Rattle.std.proofs.Common.{◌≡◌, ◌<◌, ℕ, Bool, List, false, length, get_or, refl, sym, ap, ◌∙◌, subst, arith}
 use Rattle.std.specs.List.{Contains}
 use Rattle.std.proofs.lemmas.List.{take_all}
 use Rattle.std.proofs.lemmas.List.{length-replicate}
 use Rattle.std.proofs.lemmas.Option.{slice_get_within}
 use Rattle.std.proofs.lemmas.Result.{err_from_is_err_and}
 use Rattle.pepa_resolver.specs.Graphs.{IsMarked}
-use Rattle.pepa_checks.specs.declared.activities.Lists.{Lists}
 use Rattle.pepa_checks.specs.ActivityLists.{LeafChoices, outline}
 use Rattle.pepa_checks.proofs.LeafCounting.{below_at}
 use Rattle.pepa_checks.proofs.ListsMaking.{kept_none, none_marked}
@@ -74,7 +72,7 @@ returns-in_err-make-clause-performed c =
     let operands_are = operands_at leaves (get_or constants at 0) c.index-leaves-number.result c.as_slice.result.now within c.index-leaves-number.is c.as_slice.ensures in
     λ choices.
     rw (p.1, p.2) (end_after compounds order constants leaves choices before (get_or constants at 0) c.as_slice.result.now c.in_err-make.field-0.0 so_far.kept so_far.sizes operands_are
-        (ready_in_order compounds order constants leaves choices before.made k at c.loop-constant-test.true refl flag_is so_far.ready) (so_far.sound choices) c.in_err-make.ensures)
+    (ready_in_order compounds order constants leaves choices before.made k at c.loop-constant-test.true refl flag_is so_far.ready) (so_far.sound choices) c.in_err-make.ensures)
 
 pub loop-constant-preserved : goal.loop-constant-preserved
 loop-constant-preserved c =
@@ -141,7 +139,7 @@ returns-in_err-make-2-clause-performed c =
     let operands_are = operands_at leaves number c.index-leaves-number-in-loop-number.result operands c.loop-number-test.true c.index-leaves-number-in-loop-number.is c.as_slice-in-loop-number.ensures in
     λ choices.
     rw (p.1, p.2) (end_after compounds order constants leaves choices before number operands c.in_err-make-2.field-0.0 so_far.kept so_far.sizes operands_are
-        (ready_behind compounds order constants leaves choices before.made number so_far.ready) (so_far.sound choices) c.in_err-make-2.ensures)
+    (ready_behind compounds order constants leaves choices before.made number so_far.ready) (so_far.sound choices) c.in_err-make-2.ensures)
 
 pub loop-number-preserved : goal.loop-number-preserved
 loop-number-preserved c =

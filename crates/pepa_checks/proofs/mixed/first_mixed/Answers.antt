@@ -1,4 +1,4 @@
-use Rattle.std.proofs.Common.{◌<◌, subst, sym, length, refl, arith, List}
+use Rattle.std.proofs.Common.{subst, length, refl, arith, List}
 use Rattle.std.proofs.lemmas.Option.{slice_get_within, slice_get_read, MatchOption-at_none}
 use Rattle.pepa_model.specs.PepaModel.{AreUnmixed}
 use Rattle.pepa_checks.specs.declared.summand.Performed.{Performed}

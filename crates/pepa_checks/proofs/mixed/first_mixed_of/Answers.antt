@@ -1,11 +1,11 @@
-use Rattle.std.proofs.Common.{ℕ, ◌≡◌, ◌≢◌, None, Some, refl, sym, ◌∙◌, ap, arith, nat_eq, length, true, false}
+use Rattle.std.proofs.Common.{◌≡◌, Some, refl, sym, ◌∙◌, ap, arith, nat_eq, length}
 use Rattle.std.proofs.lemmas.Bool.{ne_eqb}
 use Rattle.std.proofs.lemmas.List.{length-map}
 use Rattle.std.proofs.lemmas.Option.{slice_get_read}
 use Rattle.std.specs.Map.{lookup}
 use Rattle.indexmap.specs.IndexMap.{get}
 use Rattle.pepa_checks.specs.declared.summand.Performed.{Performed}
-use Rattle.pepa_checks.specs.MixedLists.{activities, is_passive}
+use Rattle.pepa_checks.specs.MixedLists.{activities}
 use Rattle.pepa_checks.proofs.ActivityKinds.{no_kinds, kinds_same, kinds_new, mixed_at, all_unmixed, activity_at, apart_from_test, same_from_test}
 use Rattle.pepa_checks.proofs.mixed.first_mixed_of.Goals as goal
 use Rattle.pepa_checks.proofs.mixed.first_mixed_of.Goals.{in-Some+else-first-passive, in-None+in_ok-insert-in-None}

@@ -1,8 +1,7 @@
-use Rattle.std.proofs.Common.{◌≡◌, ◌<◌, ap, sym, ◌∙◌, subst, refl, ℕ, List, arith, length, get_or, length-set}
-use Rattle.pepa_resolver.specs.Named.{Named, constants_named}
+use Rattle.std.proofs.Common.{ap, ◌∙◌, subst, refl, ℕ, List, arith, length, get_or, length-set}
+use Rattle.pepa_resolver.specs.Named.{constants_named}
 use Rattle.pepa_resolver.specs.NamedTypes.{named_of, bodies_of}
-use Rattle.pepa_checks.specs.Outline.{definitions_in, shape_in}
-use Rattle.pepa_checks.specs.LeafCounts.{IsCountIn, HasCounts}
+use Rattle.pepa_checks.specs.LeafCounts.{IsCountIn}
 use Rattle.pepa_checks.proofs.LeafCounting.{none_counted, below_at, body_at, body_counted, counted_more, counted_skip, all_counted, is_many}
 use Rattle.pepa_checks.proofs.system_size.has_many_leaves.Goals as goal
 use Rattle.pepa_checks.proofs.system_size.has_many_leaves.Goals.{then-compounds-at, else-compounds-at}

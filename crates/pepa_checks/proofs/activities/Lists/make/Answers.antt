@@ -1,7 +1,7 @@
-use Rattle.std.proofs.Common.{◌≡◌, ◌≤◌, ◌<◌, ◌+◌, ◌-◌, Bool, List, false, inl, inr, length, set, get_or, sum_by, ap, sym, ◌∙◌, refl, subst, arith, MatchResult}
+use Rattle.std.proofs.Common.{◌≡◌, Bool, List, false, inr, set, get_or, ap, sym, ◌∙◌, refl, arith}
 use Rattle.std.proofs.lemmas.Result.{err_from_is_err_and}
 use Rattle.pepa_checks.specs.declared.summand.Performed.{Performed}
-use Rattle.pepa_checks.specs.ActivityLists.{performed_in, IsOutOfRoom, PassesMost}
+use Rattle.pepa_checks.specs.ActivityLists.{performed_in}
 use Rattle.pepa_checks.proofs.ListsMaking.{kept_more, passes_most}
 use Rattle.pepa_checks.proofs.activities.Lists.make.Goals as goal
 
