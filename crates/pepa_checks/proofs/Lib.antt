@@ -20,3 +20,10 @@ pub mod ModelShapes
 pub mod IsModels
 pub mod Indices
 pub mod OneModel
+pub mod ActivityKinds
+pub mod LeafCounting
+pub mod ListsMaking
+pub mod ProcessKinds
+pub mod Performances
+pub mod SoundLists
+pub mod Counted

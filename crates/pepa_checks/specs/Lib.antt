@@ -6,3 +6,6 @@ pub mod Limits
 pub mod CheckedFiles
 pub mod Heights
 pub mod Built
+pub mod LeafCounts
+pub mod MixedLists
+pub mod ActivityLists

@@ -1,8 +1,11 @@
 //! The checks of a file, and its model.
 #![tactic(auto)]
 
+mod activities;
+mod mixed;
 mod number_set;
 mod sequential;
 mod sets;
 mod shapes;
 mod summand;
+mod system_size;

@@ -1,0 +1,190 @@
+//! What each leaf performs.
+ghost use Rattle.std.specs.Prelude.{◌≡◌, ◌<◌, ◌≤◌, ◌++◌, [], false, zero, length, sum_by, replicate, slice_index, IfOk, OnOk, MatchResult};
+ghost use Rattle.pepa_checks.specs.Summands.{ArePerformed};
+ghost use Rattle.pepa_checks.specs.ActivityLists.{LeafChoices, outline, written, IsActivitiesEnd, performed_by, performed_in, IsOutOfRoom, AreKept, MakesList, PassesMost};
+
+use crate::summand::{Performed, Summand};
+use pepa_model::Activity;
+use sqlite_items::Items;
+use std::alloc::{AllocError, Global};
+
+/// The most activities that the leaves of a model may have together.
+const MOST_ACTIVITIES: usize = 65_535;
+
+/// Why there are no lists of activities.
+#[derive(Clone, Copy, Debug)]
+pub(crate) enum ActivitiesEnd {
+    /// There are more activities than a model may have.
+    TooMany,
+    /// Memory ran out.
+    Memory,
+}
+
+impl From<AllocError> for ActivitiesEnd {
+    ghost use Rattle.pepa_checks.specs.declared.activities.ActivitiesEnd.TheVariants.{Memory};
+
+    ghost from_gives = { λ _ end. end ≡ Memory };
+
+    fn from(_error: AllocError) -> ActivitiesEnd {
+        ActivitiesEnd::Memory
+    }
+}
+
+/// The number of the leaf that a sequential constant is. Each constant in a leaf is one.
+fn leaf_of(constants: &[u32], constant: u32) -> usize
+    ensures { result ≡ slice_index constants.now constant }
+{
+    constants.get(constant as usize).copied().unwrap_or(0) as usize
+}
+
+/// How many activities an operand has.
+fn count_of(constants: &[u32], lists: &[Items<Performed>], operand: &Summand) -> usize
+    ensures { result ≡ length (performed_by constants.now lists.now operand.now) }
+{
+    match operand {
+        Summand::Constant(constant) => match lists.get(leaf_of(constants, *constant)) {
+            Some(list) => list.len(),
+            None => 0,
+        },
+        Summand::Activity { .. } => 1,
+    }
+}
+
+/// Puts the activities of an operand behind the others.
+fn add_operand(
+    list: &mut Vec<Performed>,
+    constants: &[u32],
+    lists: &[Items<Performed>],
+    operand: &Summand,
+) -> Result<(), AllocError>
+    ensures { OnOk result (list.new.items ≡ list.old.items ++ performed_by constants.now lists.now operand.now) }
+{
+    match operand {
+        Summand::Constant(constant) => {
+            if let Some(same) = lists.get(leaf_of(constants, *constant)) {
+                list.extend_from_slice(same.as_slice())?;
+            }
+        }
+        Summand::Activity {
+            at,
+            action,
+            rate,
+            target,
+        } => list.push(Performed {
+            at: *at,
+            activity: Activity {
+                action: *action,
+                rate: *rate,
+                target: *target,
+            },
+        })?,
+    }
+    Ok(())
+}
+
+/// The list of a leaf with these operands, if there is room for it.
+fn list_of(
+    alloc: Global,
+    constants: &[u32],
+    lists: &[Items<Performed>],
+    operands: &[Summand],
+    room: usize,
+) -> Result<Items<Performed>, ActivitiesEnd>
+    ensures { MatchResult result
+        (λ list. (list ≡ performed_in constants.now lists.now operands.now) × (length list ≤ room))
+        (IsOutOfRoom (performed_in constants.now lists.now operands.now) room) }
+{
+    let mut list = Vec::new(alloc);
+    for operand in operands {
+        if count_of(constants, lists, operand) > room - list.len() {
+            return Err(ActivitiesEnd::TooMany);
+        }
+        add_operand(&mut list, constants, lists, operand)?;
+    }
+    Ok(Items::from_vec(list))
+}
+
+/// The lists of the leaves, as far as they are made.
+#[derive(Drop)]
+struct Lists {
+    /// Whether the list of each leaf is made.
+    made: Items<bool>,
+    /// The list of each leaf, which is empty until it is made.
+    lists: Items<Items<Performed>>,
+    /// How many activities they have together.
+    total: usize,
+}
+
+impl Lists {
+    /// The lists of so many leaves, none of them made.
+    fn new(alloc: Global, count: usize) -> Result<Lists, AllocError>
+        ensures { IfOk result (λ it. (it.made ≡ replicate count false) × (it.lists ≡ replicate count []) × (it.total ≡ 0)) }
+    {
+        let mut lists = Items::new(alloc);
+        for _made in 0..count {
+            lists.push(Items::new(alloc))?;
+        }
+        let made = Items::from_vec(vec![in alloc; false; count]?);
+        Ok(Lists {
+            made,
+            lists,
+            total: 0,
+        })
+    }
+
+    /// Makes the list of a leaf with these operands, unless it is made.
+    fn make(
+        &mut self,
+        alloc: Global,
+        constants: &[u32],
+        operands: &[Summand],
+        number: usize,
+    ) -> Result<(), ActivitiesEnd>
+        requires kept { AreKept self.old }
+        requires within { number < length self.old.lists }
+        ensures { MatchResult result
+            (λ _. AreKept self.new × MakesList constants.now operands.now number self.old self.new)
+            (PassesMost constants.now operands.now number self.old) }
+    {
+        if self.made.as_slice()[number] {
+            return Ok(());
+        }
+        let room = MOST_ACTIVITIES - self.total;
+        let list = list_of(alloc, constants, self.lists.as_slice(), operands, room)?;
+        self.total += list.len();
+        self.lists.set(number, list);
+        self.made.set(number, true);
+        Ok(())
+    }
+}
+
+/// What each leaf performs, by number.
+///
+/// The constants stand in the order behind those that stand in their bodies behind no activity, whose lists theirs are made of.
+/// Each list is made once, in the time of its operands and its activities, and there is room for it before it is made.
+pub(crate) fn performed(
+    alloc: Global,
+    compounds: &[bool],
+    order: &[u32],
+    constants: &[u32],
+    leaves: &[Items<Summand>],
+) -> Result<Items<Items<Performed>>, ActivitiesEnd>
+    requires { LeafChoices compounds.now order.now constants.now leaves.now }
+    ensures performed { (choices : LeafChoices compounds.now order.now constants.now leaves.now) → MatchResult result
+        (ArePerformed (outline choices) choices.bodies (written choices))
+        (IsActivitiesEnd choices) }
+    ensures few { IfOk result (λ lists. sum_by length lists ≤ 65535) }
+{
+    let mut lists = Lists::new(alloc, leaves.len())?;
+    for constant in order {
+        let constant = *constant as usize;
+        if !compounds[constant] {
+            let number = constants[constant] as usize;
+            lists.make(alloc, constants, leaves[number].as_slice(), number)?;
+        }
+    }
+    for number in 0..leaves.len() {
+        lists.make(alloc, constants, leaves[number].as_slice(), number)?;
+    }
+    Ok(lists.lists)
+}
