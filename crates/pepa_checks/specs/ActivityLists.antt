@@ -1,9 +1,8 @@
 -- What leaves perform, list by list, from the operands of their choices.
-use Rattle.std.specs.Prelude.{◌≡◌, ℕ, ◌<◌, ◌≤◌, ◌⊎◌, Bool, true, List, [], ◌∷◌, ◌++◌, flat_map, length, sum_by, slice_set, slice_index, slice_index_or}
+use Rattle.std.specs.Prelude.{◌≡◌, ℕ, ◌<◌, ◌≤◌, ◌⊎◌, Bool, true, List, [], ◌∷◌, flat_map, length, sum_by, slice_set, slice_index, slice_index_or}
 use Rattle.std.specs.List.{AllZip}
 use Rattle.pepa_model.specs.Opened.{Opened, Opens, moves}
 use Rattle.pepa_resolver.specs.Named.{Named}
-use Rattle.pepa_resolver.specs.NamedTypes.{HasConstantsBelow}
 use Rattle.pepa_resolver.specs.Faults.{HasNone}
 use Rattle.pepa_resolver.specs.Structure.{IsCompound, NotSequentialAt, UnguardedEdge}
 use Rattle.pepa_resolver.specs.Graphs.{IsTableOf, IsOrder, IsMarked}
@@ -25,7 +24,6 @@ pub record LeafChoices (compounds : List Bool) (order constants : List ℕ) (lea
   pub one_each : length compounds ≡ length bodies
   pub table : IsTableOf (IsCompound bodies) compounds
   pub sequential : HasNone (NotSequentialAt bodies system)
-  pub below : HasConstantsBelow (length bodies) (bodies ++ system ∷ [])
   pub in_order : IsOrder (UnguardedEdge bodies) (length bodies) order
   pub constant_leaves : AreConstantLeaves (outline_with sets compounds bodies system) compounds constants
   pub operands : AreLeafSummands (outline_with sets compounds bodies system) bodies (written_leaves compounds bodies system) leaves
