@@ -10,8 +10,8 @@ use Rattle.pepa_resolver.specs.Graphs.{IsMarked}
 use Rattle.pepa_checks.specs.declared.summand.Summand.{Summand}
 use Rattle.pepa_checks.specs.declared.summand.Performed.{Performed}
 use Rattle.pepa_checks.specs.declared.activities.Lists.{Lists}
-use Rattle.pepa_checks.specs.declared.activities.ActivitiesEnd.{ActivitiesEnd}
-use Rattle.pepa_checks.specs.declared.activities.ActivitiesEnd.TheVariants.{TooMany, Memory}
+use Rattle.pepa_checks.specs.declared.limit_end.LimitEnd.{LimitEnd}
+use Rattle.pepa_checks.specs.declared.limit_end.LimitEnd.TheVariants.{TooMany, Memory}
 use Rattle.pepa_resolver.proofs.Marks.{marked_set, marked_kept}
 use Rattle.pepa_checks.specs.ActivityLists.{performed_by, performed_in, AreKept, IsOutOfRoom, PassesMost}
 
@@ -77,7 +77,7 @@ too_many before number list kept low unmarked full =
     omega arith
 
 -- why it wasn't made
-pub passes_most : (before : Lists) (constants : List ℕ) (operands : List Summand) (number : ℕ) (lists : List (List Performed)) (end : ActivitiesEnd) → AreKept before → number < length before.lists → get_or before.made number false ≡ false
+pub passes_most : (before : Lists) (constants : List ℕ) (operands : List Summand) (number : ℕ) (lists : List (List Performed)) (end : LimitEnd) → AreKept before → number < length before.lists → get_or before.made number false ≡ false
     → lists ≡ before.lists → IsOutOfRoom (performed_in constants lists operands) (65535 - before.total) end → PassesMost constants operands number before end
 passes_most before constants operands number lists TooMany kept low unmarked is full =
     too_many before number (performed_in constants before.lists operands) kept low unmarked (subst (λ (l : List (List Performed)). 65535 - before.total < length (performed_in constants l operands)) is full)

@@ -16,8 +16,8 @@ use Rattle.pepa_resolver.proofs.Marks.{marked_at, marked_set, marked_kept, marke
 use Rattle.pepa_checks.specs.declared.summand.Performed.{Performed}
 use Rattle.pepa_checks.specs.declared.summand.Summand.{Summand}
 use Rattle.pepa_checks.specs.declared.activities.Lists.{Lists}
-use Rattle.pepa_checks.specs.declared.activities.ActivitiesEnd.{ActivitiesEnd}
-use Rattle.pepa_checks.specs.declared.activities.ActivitiesEnd.TheVariants.{TooMany, Memory}
+use Rattle.pepa_checks.specs.declared.limit_end.LimitEnd.{LimitEnd}
+use Rattle.pepa_checks.specs.declared.limit_end.LimitEnd.TheVariants.{TooMany, Memory}
 use Rattle.pepa_checks.specs.Outline.{Outline}
 use Rattle.pepa_checks.specs.Activities.{activity_in}
 use Rattle.pepa_checks.specs.Summands.{IsPerformed, IsPerformedBy, ArePerformed}
@@ -145,7 +145,7 @@ module _ (compounds : List Bool) (order constants : List ℕ) (leaves : List (Li
               let e = ap length none in
               omega arith
 
-  pub end_after : (before : Lists) (number : ℕ) (operands : List Summand) (end : ActivitiesEnd) → AreKept before → length before.lists ≡ length leaves → slice_get leaves number ≡ Some operands
+  pub end_after : (before : Lists) (number : ℕ) (operands : List Summand) (end : LimitEnd) → AreKept before → length before.lists ≡ length leaves → slice_get leaves number ≡ Some operands
       → IsReadyAt before.made number → Sound before.made before.lists → PassesMost constants operands number before end → IsActivitiesEnd choices end
   end_after before number operands Memory kept sizes operands_are ready sound passes = tt
   end_after before number operands TooMany kept sizes operands_are ready sound passes = λ opened zip.

@@ -9,8 +9,8 @@ use Rattle.pepa_resolver.specs.Graphs.{IsTableOf, IsOrder, IsMarked}
 use Rattle.pepa_checks.specs.declared.summand.Summand.{Summand}
 use Rattle.pepa_checks.specs.declared.summand.Summand.TheVariants.{Constant, Activity}
 use Rattle.pepa_checks.specs.declared.summand.Performed.{Performed}
-use Rattle.pepa_checks.specs.declared.activities.ActivitiesEnd.{ActivitiesEnd}
-use Rattle.pepa_checks.specs.declared.activities.ActivitiesEnd.TheVariants.{TooMany, Memory}
+use Rattle.pepa_checks.specs.declared.limit_end.LimitEnd.{LimitEnd}
+use Rattle.pepa_checks.specs.declared.limit_end.LimitEnd.TheVariants.{TooMany, Memory}
 use Rattle.pepa_checks.specs.declared.activities.Lists.{Lists}
 use Rattle.pepa_checks.specs.Outline.{Outline, outline_with}
 use Rattle.pepa_checks.specs.Activities.{written_leaves}
@@ -42,7 +42,7 @@ OpensIntoMany outline =
     (opened : List Opened) → AllZip (Opens outline.definitions) outline.leaves opened → 65535 < sum_by (λ tree. length (moves tree)) opened
 
 -- why there are no lists
-abbrev pub IsActivitiesEnd : {compounds : List Bool} {order constants : List ℕ} {leaves : List (List Summand)} → LeafChoices compounds order constants leaves → ActivitiesEnd → Type 0
+abbrev pub IsActivitiesEnd : {compounds : List Bool} {order constants : List ℕ} {leaves : List (List Summand)} → LeafChoices compounds order constants leaves → LimitEnd → Type 0
 IsActivitiesEnd choices TooMany = OpensIntoMany (outline choices)
 IsActivitiesEnd choices Memory = Unit {0}
 
@@ -63,7 +63,7 @@ abbrev pub performed_in : List ℕ → List (List Performed) → List Summand �
 performed_in constants lists operands = flat_map (performed_by constants lists) operands
 
 -- the room isn't enough for this
-abbrev pub IsOutOfRoom : List Performed → ℕ → ActivitiesEnd → Type 0
+abbrev pub IsOutOfRoom : List Performed → ℕ → LimitEnd → Type 0
 IsOutOfRoom list room TooMany = room < length list
 IsOutOfRoom list room Memory = Unit {0}
 
@@ -81,6 +81,6 @@ MakesList constants operands number before after =
     ⊎ ((after.made ≡ slice_set before.made number true) × (after.lists ≡ slice_set before.lists number (performed_in constants before.lists operands)))
 
 -- with the list of this leaf there would be too many
-abbrev pub PassesMost : List ℕ → List Summand → ℕ → Lists → ActivitiesEnd → Type 0
+abbrev pub PassesMost : List ℕ → List Summand → ℕ → Lists → LimitEnd → Type 0
 PassesMost constants operands number before TooMany = 65535 < sum_by length (slice_set before.lists number (performed_in constants before.lists operands))
 PassesMost constants operands number before Memory = Unit {0}

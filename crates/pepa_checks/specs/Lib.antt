@@ -9,3 +9,6 @@ pub mod Built
 pub mod LeafCounts
 pub mod MixedLists
 pub mod ActivityLists
+pub mod LeavesAnswers
+pub mod CountedFiles
+pub mod MadeModels

@@ -3,6 +3,7 @@ ghost use Rattle.std.specs.Prelude.{◌≡◌, ◌<◌, ◌≤◌, ◌++◌, [],
 ghost use Rattle.pepa_checks.specs.Summands.{ArePerformed};
 ghost use Rattle.pepa_checks.specs.ActivityLists.{LeafChoices, outline, written, IsActivitiesEnd, performed_by, performed_in, IsOutOfRoom, AreKept, MakesList, PassesMost};
 
+use crate::limit_end::LimitEnd;
 use crate::summand::{Performed, Summand};
 use pepa_model::Activity;
 use sqlite_items::Items;
@@ -10,25 +11,6 @@ use std::alloc::{AllocError, Global};
 
 /// The most activities that the leaves of a model may have together.
 const MOST_ACTIVITIES: usize = 65_535;
-
-/// Why there are no lists of activities.
-#[derive(Clone, Copy, Debug)]
-pub(crate) enum ActivitiesEnd {
-    /// There are more activities than a model may have.
-    TooMany,
-    /// Memory ran out.
-    Memory,
-}
-
-impl From<AllocError> for ActivitiesEnd {
-    ghost use Rattle.pepa_checks.specs.declared.activities.ActivitiesEnd.TheVariants.{Memory};
-
-    ghost from_gives = { λ _ end. end ≡ Memory };
-
-    fn from(_error: AllocError) -> ActivitiesEnd {
-        ActivitiesEnd::Memory
-    }
-}
 
 /// The number of the leaf that a sequential constant is. Each constant in a leaf is one.
 fn leaf_of(constants: &[u32], constant: u32) -> usize
@@ -89,7 +71,7 @@ fn list_of(
     lists: &[Items<Performed>],
     operands: &[Summand],
     room: usize,
-) -> Result<Items<Performed>, ActivitiesEnd>
+) -> Result<Items<Performed>, LimitEnd>
     ensures { MatchResult result
         (λ list. (list ≡ performed_in constants.now lists.now operands.now) × (length list ≤ room))
         (IsOutOfRoom (performed_in constants.now lists.now operands.now) room) }
@@ -97,7 +79,7 @@ fn list_of(
     let mut list = Vec::new(alloc);
     for operand in operands {
         if count_of(constants, lists, operand) > room - list.len() {
-            return Err(ActivitiesEnd::TooMany);
+            return Err(LimitEnd::TooMany);
         }
         add_operand(&mut list, constants, lists, operand)?;
     }
@@ -139,7 +121,7 @@ impl Lists {
         constants: &[u32],
         operands: &[Summand],
         number: usize,
-    ) -> Result<(), ActivitiesEnd>
+    ) -> Result<(), LimitEnd>
         requires kept { AreKept self.old }
         requires within { number < length self.old.lists }
         ensures { MatchResult result
@@ -168,7 +150,7 @@ pub(crate) fn performed(
     order: &[u32],
     constants: &[u32],
     leaves: &[Items<Summand>],
-) -> Result<Items<Items<Performed>>, ActivitiesEnd>
+) -> Result<Items<Items<Performed>>, LimitEnd>
     requires { LeafChoices compounds.now order.now constants.now leaves.now }
     ensures performed { (choices : LeafChoices compounds.now order.now constants.now leaves.now) → MatchResult result
         (ArePerformed (outline choices) choices.bodies (written choices))

@@ -1,0 +1,80 @@
+-- What counting the parts of a file says of its limits.
+use Rattle.std.proofs.Common.{◌≡◌, ℕ, ◌<◌, ◌≤◌, Bool, true, false, List, length, map, inl, inr, refl, sym, ap, ◌∙◌, subst, arith, IsTrue, Err}
+use Rattle.std.specs.Prelude.{sum_by, ◌⊎◌}
+use Rattle.std.specs.Map.{keys_of}
+use Rattle.std.proofs.lemmas.List.{length-map}
+use Rattle.indexmap.specs.IndexMap.{keys}
+use Rattle.pepa_model.specs.Expression.{Expression, expression_of}
+use Rattle.pepa_model.specs.Opened.{Opened, Opens}
+use Rattle.pepa_resolver.specs.Named.{Named}
+use Rattle.pepa_resolver.specs.Structure.{CompoundEdge, UnguardedEdge}
+use Rattle.pepa_resolver.specs.Graphs.{IsOrder}
+use Rattle.pepa_checks.specs.declared.leaves.Leaves.{Leaves}
+use Rattle.pepa_checks.specs.declared.counting.Counted.{Counted}
+use Rattle.pepa_checks.specs.declared.summand.Performed.{Performed}
+use Rattle.pepa_checks.specs.declared.limit_end.LimitEnd.{LimitEnd}
+use Rattle.pepa_checks.specs.declared.limit_end.LimitEnd.TheVariants.{TooMany, Memory}
+use Rattle.pepa_checks.specs.Outline.{Outline, outline_of, sets_of}
+use Rattle.pepa_checks.specs.Activities.{written_leaves}
+use Rattle.pepa_checks.specs.Limits.{PassesLimit, HasManyActivities, HasManyLeaves}
+use Rattle.pepa_checks.specs.Summands.{ArePerformed}
+use Rattle.pepa_checks.specs.Built.{IsBuilt}
+use Rattle.pepa_checks.specs.LeavesAnswers.{AreLeaves}
+use Rattle.pepa_checks.specs.ActivityLists.{LeafChoices, OpensIntoMany, IsActivitiesEnd}
+use Rattle.pepa_checks.specs.CountedFiles.{IsCounted, Counts}
+use Rattle.pepa_checks.proofs.Openings.{leaf_opens}
+use Rattle.pepa_checks.proofs.Expansions.{system_expands}
+use Rattle.pepa_checks.proofs.Counted.{EachOpens, TellsLeaves, few_activities, many_activities, many_leaves, few_leaves}
+
+-- as many keys as entries
+pub few_keys : {V : Type 0} (entries : List (List ℕ × V)) (limit len : ℕ) → len ≡ length entries → len ≤ limit → length (keys_of entries) ≤ limit
+few_keys entries limit len e few = omega (arith, length-map entries (λ p. p.0))
+
+module _ (actions : List (List ℕ)) (compounds : List Bool) (bodies : List Named) (system : Named) (compound_order sequential_order : List ℕ) (built : IsBuilt compounds bodies system) (compounds_first : IsOrder (CompoundEdge bodies) (length bodies) compound_order) (sequential_first : IsOrder (UnguardedEdge bodies) (length bodies) sequential_order) where
+  abbrev outline : Outline
+  outline = outline_of compounds bodies system
+
+  abbrev written : List Named
+  written = written_leaves compounds bodies system
+
+  abbrev pub choices : (found : Leaves) → AreLeaves outline compounds bodies written found → LeafChoices compounds sequential_order found.constants found.summands
+  choices found are = record {
+    bodies = bodies;
+    system = system;
+    sets = sets_of bodies system;
+    one_each = built.one_each;
+    table = built.table;
+    sequential = built.sequential;
+    in_order = sequential_first;
+    constant_leaves = are.constants_are;
+    operands = are.summands_are;
+  }
+
+  pub each_opens : EachOpens outline
+  each_opens number leaf is =
+      let tree = leaf_opens (sets_of bodies system) compounds bodies system sequential_order built sequential_first number leaf is in
+      (tree.0, tree.1)
+
+  pub performed_end : (found : Leaves) (are : AreLeaves outline compounds bodies written found) (end : LimitEnd) → IsActivitiesEnd (choices found are) end → Counts actions compounds bodies system (Err end)
+  performed_end found are TooMany many = inr (inr (inr (inl (many_activities outline each_opens many))))
+  performed_end found are Memory h = tt
+
+  pub many_system : (many : Bool) → TellsLeaves outline many → IsTrue many → PassesLimit actions outline
+  many_system many tells is =
+      let tree = system_expands (sets_of bodies system) compounds bodies system compound_order built compounds_first in
+      inr (inr (inr (inr (many_leaves outline many tells tree.0 tree.1 is))))
+
+  pub counts : (counted : Counted) (many : Bool) → length actions ≤ 1025 → keys counted.sets ≡ sets_of bodies system → length (keys counted.sets) ≤ 1024 → AreLeaves outline compounds bodies written counted.leaves → ArePerformed outline bodies written counted.performed → sum_by length counted.performed ≤ 65535 → TellsLeaves outline many → many ≡ false → IsCounted actions compounds bodies system counted
+  counts counted many few_actions sets few_sets leaves performed few tells is = record {
+    within = λ passed. apart passed;
+    sets_are = sets;
+    leaves_are = leaves.expressions_are;
+    performed_are = performed;
+  }
+    where
+      apart : ¬ PassesLimit actions outline
+      apart (inl lt) = omega arith
+      apart (inr (inl lt)) = let e : length (keys counted.sets) ≡ length (sets_of bodies system) = ap (λ (l : List (List ℕ)). length l) sets in omega arith
+      apart (inr (inr (inl lt))) = let most = leaves.few in omega arith
+      apart (inr (inr (inr (inl h)))) = few_activities outline bodies written counted.performed performed few h
+      apart (inr (inr (inr (inr h)))) = few_leaves outline many tells is h
