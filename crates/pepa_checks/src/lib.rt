@@ -1,5 +1,6 @@
 //! The checks of a file, and its model.
 #![tactic(auto)]
 
+mod nodes;
 mod sequential;
 mod summand;
