@@ -1,3 +1,4 @@
 -- The lemmas of this crate.
 pub mod ListReads
 pub mod NodeSteps
+pub mod WalkSteps

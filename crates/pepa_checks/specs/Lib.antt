@@ -6,3 +6,4 @@ pub mod CheckedFiles
 pub mod NodeTests
 pub mod NodeLaws
 pub mod NodeTables
+pub mod Candidates

@@ -1,6 +1,7 @@
 //! The checks of a file, and its model.
 #![tactic(auto)]
 
+mod expressions;
 mod nodes;
 mod sequential;
 mod summand;
