@@ -2,3 +2,4 @@
 pub mod ListReads
 pub mod NodeSteps
 pub mod WalkSteps
+pub mod FileWalks
