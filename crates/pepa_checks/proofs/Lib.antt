@@ -3,3 +3,4 @@ pub mod ListReads
 pub mod NodeSteps
 pub mod WalkSteps
 pub mod FileWalks
+pub mod LeafSteps

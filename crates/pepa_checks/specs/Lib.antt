@@ -7,3 +7,4 @@ pub mod NodeTests
 pub mod NodeLaws
 pub mod NodeTables
 pub mod Candidates
+pub mod LeafTables

@@ -2,6 +2,7 @@
 #![tactic(auto)]
 
 mod expressions;
+mod leaf_table;
 mod nodes;
 mod sequential;
 mod summand;
