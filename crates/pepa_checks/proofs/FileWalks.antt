@@ -24,10 +24,10 @@ use Rattle.pepa_checks.proofs.WalkSteps.{operands_grown, number_grown, stands_gr
 
 -- ---- what is sequential
 
-contains_head : {X : Type 0} (x : X) (xs : List X) → Contains (x ∷ xs) x
+pub contains_head : {X : Type 0} (x : X) (xs : List X) → Contains (x ∷ xs) x
 contains_head x xs = Contains-append_left (x ∷ []) xs x (Contains-push [] x)
 
-contains_tail : {X : Type 0} (x : X) (xs : List X) (y : X) → Contains xs y → Contains (x ∷ xs) y
+pub contains_tail : {X : Type 0} (x : X) (xs : List X) (y : X) → Contains xs y → Contains (x ∷ xs) y
 contains_tail x xs y among = Contains-append_right (x ∷ []) xs y among
 
 -- no part that has to be sequential has a system in it

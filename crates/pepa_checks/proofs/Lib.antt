@@ -4,3 +4,7 @@ pub mod NodeSteps
 pub mod WalkSteps
 pub mod FileWalks
 pub mod LeafSteps
+pub mod OutlineLeaves
+pub mod WrittenLeaves
+pub mod LeafLoops
+pub mod LeafAnswers

@@ -8,3 +8,4 @@ pub mod NodeLaws
 pub mod NodeTables
 pub mod Candidates
 pub mod LeafTables
+pub mod LeavesAnswers

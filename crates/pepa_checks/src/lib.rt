@@ -3,6 +3,7 @@
 
 mod expressions;
 mod leaf_table;
+mod leaves;
 mod nodes;
 mod sequential;
 mod summand;

@@ -1,0 +1,99 @@
+//! The leaves of a file, each with the operands of its choice.
+ghost use Rattle.std.specs.Prelude.{◌≡◌, ◌≤◌, length, IfOk};
+ghost use Rattle.pepa_resolver.specs.NamedTypes.{named_of, bodies_of};
+ghost use Rattle.pepa_resolver.specs.Structure.{IsCompound, NotSequentialAt};
+ghost use Rattle.pepa_resolver.specs.Faults.{HasNone};
+ghost use Rattle.pepa_resolver.specs.Graphs.{IsTableOf};
+ghost use Rattle.pepa_checks.specs.LeavesAnswers.{FindsLeaves, numbers_from};
+
+use crate::expressions::{FileWalk, walk_file};
+use crate::leaf_table::LeafTable;
+use crate::summand::Summand;
+use pepa_model::SequentialList;
+use pepa_resolver::NamedProcess;
+use sqlite_items::Items;
+use std::alloc::{AllocError, Global};
+
+/// How many leaves a model may have.
+const MAX_LEAVES: usize = 65_535;
+
+/// The leaves of a file.
+#[derive(Drop)]
+pub(crate) struct Leaves {
+    /// The leaves' expressions, by number.
+    pub(crate) expressions: SequentialList,
+    /// The operands of each leaf's choice, by number; those of a constant's body for a leaf that is one.
+    pub(crate) summands: Items<Items<Summand>>,
+    /// The number of the leaf that each sequential constant is, by constant; any number for a compound one.
+    pub(crate) constants: Items<u32>,
+}
+
+/// Why no leaves were told.
+#[derive(Clone, Copy, Debug, PartialEq, Eq)]
+pub(crate) enum LeavesEnd {
+    /// There are more than 65,535.
+    TooMany,
+    /// Memory ran out.
+    Memory,
+}
+
+impl From<AllocError> for LeavesEnd {
+    ghost use Rattle.pepa_checks.specs.declared.leaves.LeavesEnd.TheVariants.{Memory};
+
+    ghost from_gives = { λ _ end. end ≡ Memory };
+
+    fn from(_error: AllocError) -> LeavesEnd {
+        LeavesEnd::Memory
+    }
+}
+
+/// The numbers of the leaves that are sequential constants, by constant: these are the first leaves.
+fn constant_leaves(alloc: Global, compounds: &[bool]) -> Result<Items<u32>, AllocError>
+    requires { length compounds.now ≤ 1024 }
+    ensures { IfOk result (λ numbers. numbers ≡ numbers_from 0 compounds.now) }
+{
+    let mut numbers = Items::new(alloc);
+    let mut next = 0;
+    for compound in compounds {
+        numbers.push(next)?;
+        if !*compound {
+            next += 1;
+        }
+    }
+    Ok(numbers)
+}
+
+/// The leaves of the processes of a file, where the flags say which constants are compound. Equal expressions are found by their
+/// numbers, and each process is walked once.
+pub(crate) fn leaves_of(
+    alloc: Global,
+    compounds: &[bool],
+    bodies: &[NamedProcess],
+    system: &NamedProcess,
+) -> Result<Leaves, LeavesEnd>
+    requires few { length bodies.now ≤ 1024 }
+    requires sizes { length compounds.now ≡ length bodies.now }
+    requires compounds { IsTableOf (IsCompound (bodies_of bodies.now)) compounds.now }
+    requires sequential { HasNone (NotSequentialAt (bodies_of bodies.now) (named_of system.now)) }
+    ensures { FindsLeaves compounds.now (bodies_of bodies.now) (named_of system.now) result }
+{
+    let FileWalk { walk, mut heads } = walk_file(alloc, compounds, bodies, system)?;
+    let mut table = LeafTable::new(alloc);
+    while let Some(head) = heads.pop() {
+        table.add_head(head)?;
+    }
+    let mut candidates = walk.candidates;
+    while let Some(candidate) = candidates.pop() {
+        table.add_candidate(alloc, candidate)?;
+        if table.numbers.len() > MAX_LEAVES {
+            return Err(LeavesEnd::TooMany);
+        }
+    }
+    let summands = table.summands(alloc)?;
+    let constants = constant_leaves(alloc, compounds)?;
+    Ok(Leaves {
+        expressions: table.expressions,
+        summands,
+        constants,
+    })
+}
