@@ -1,5 +1,5 @@
 -- The table at the end, as the leaves of the outline.
-use Rattle.std.proofs.Common.{◌≡◌, ℕ, zero, suc, ◌+◌, ◌<◌, ◌≤◌, Bool, true, false, ◌||◌, ◌==◌, List, [], ◌∷◌, ◌++◌, map, reverse, length, Option, Some, None, ◌⊎◌, inl, inr, refl, sym, ap, ◌∙◌, subst, slice_get, append_assoc, true≢false, arith}
+use Rattle.std.proofs.Common.{◌≡◌, ℕ, zero, suc, ◌+◌, ◌≤◌, Bool, true, false, ◌||◌, ◌==◌, List, [], ◌∷◌, ◌++◌, map, reverse, length, Some, inl, inr, refl, sym, ap, ◌∙◌, subst, slice_get, append_assoc, true≢false, arith}
 use Rattle.std.specs.List.{AllZip, list_any}
 use Rattle.std.specs.Cmp.{unsigned_Decides}
 use Rattle.std.proofs.lemmas.List.{map-append, append-nil, reverse-append, length-map}
@@ -7,17 +7,17 @@ use Rattle.pepa_model.specs.Expression.{Expression, Const, expression_of}
 use Rattle.pepa_model.specs.Leaves.{same_expression}
 use Rattle.pepa_resolver.specs.Named.{Named, NamedConstant, NamedPrefix, NamedChoice, NamedCoop, NamedHide}
 use Rattle.pepa_checks.specs.declared.summand.Summand.{Summand}
-use Rattle.pepa_checks.specs.declared.summand.Summand.TheVariants.{Constant, Activity}
+use Rattle.pepa_checks.specs.declared.summand.Summand.TheVariants.{Activity}
 use Rattle.pepa_checks.specs.declared.expressions.Candidate.{Candidate}
 use Rattle.pepa_checks.specs.declared.leaf_table.LeafTable.{LeafTable}
 use Rattle.pepa_checks.specs.declared.leaves.Leaves.{Leaves}
 use Rattle.pepa_checks.specs.Outline.{expression_in, outline_with, Outline}
 use Rattle.pepa_checks.specs.Activities.{written_leaves}
-use Rattle.pepa_checks.specs.Summands.{summands_in, leaf_summands, AreSummandsOf, AreLeafSummands, AreConstantLeaves}
+use Rattle.pepa_checks.specs.Summands.{summands_in, leaf_summands, AreConstantLeaves}
 use Rattle.pepa_checks.specs.Candidates.{AreOperands, IsCandidate, sequential_lines}
 use Rattle.pepa_checks.specs.LeafTables.{with_expression, with_expressions, Text, chooser, IsChoiceOf, IsNodeOf, IsLeafTable, turned}
 use Rattle.pepa_checks.specs.LeavesAnswers.{AreLeaves, numbers_from}
-use Rattle.pepa_checks.proofs.ListReads.{true_or_false, one_read, some_same, some_none, read_more}
+use Rattle.pepa_checks.proofs.ListReads.{true_or_false, some_same, some_none, read_more}
 use Rattle.pepa_checks.proofs.LeafSteps.{place_agree}
 use Rattle.pepa_checks.proofs.OutlineLeaves.{line_const, listed, with_new, with_expressions-append, all_grow, leaves_are}
 use Rattle.pepa_checks.proofs.LeafLoops.{AddsCandidates, text, zip_none, zip_long}
@@ -113,19 +113,19 @@ module _ (compounds : List Bool) (bodies : List Named) (system : Named) (sets : 
   constants_answer sizes = record {
     one_each = numbers_long 0 compounds;
     each = λ c number flag told.
-      let written = written_leaves compounds bodies system in
-      let consts = map line_const (sequential_lines 0 compounds bodies) in
-      let read = consts_read 0 0 compounds bodies c number sizes flag told in
-      let number_is : read.0 ≡ number = omega (arith, read.1) in
-      let constant_is : c + 0 ≡ c = omega arith in
-      let here : slice_get consts number ≡ Some (Const c) = subst (λ n. slice_get consts n ≡ Some (Const c)) number_is (read.2 ∙ ap (λ m. Some (Const m)) constant_is) in
-      let grown = all_grow consts (map expression_in written) in
-      let all : whole.leaves ≡ consts ++ grown.0 =
-          leaves_are compounds sets bodies system
-          ∙ with_expressions-append [] consts (map expression_in written)
-          ∙ ap (λ l. with_expressions l (map expression_in written)) (consts_new 0 compounds bodies [] (λ d low. refl))
-          ∙ grown.1 in
-      subst (λ l. slice_get l number ≡ Some (Const c)) (sym all) (read_more consts grown.0 number (Const c) here);
+        let written = written_leaves compounds bodies system in
+        let consts = map line_const (sequential_lines 0 compounds bodies) in
+        let read = consts_read 0 0 compounds bodies c number sizes flag told in
+        let number_is : read.0 ≡ number = omega (arith, read.1) in
+        let constant_is : c + 0 ≡ c = omega arith in
+        let here : slice_get consts number ≡ Some (Const c) = subst (λ n. slice_get consts n ≡ Some (Const c)) number_is (read.2 ∙ ap (λ m. Some (Const m)) constant_is) in
+        let grown = all_grow consts (map expression_in written) in
+        let all : whole.leaves ≡ consts ++ grown.0 =
+        leaves_are compounds sets bodies system
+        ∙ with_expressions-append [] consts (map expression_in written)
+        ∙ ap (λ l. with_expressions l (map expression_in written)) (consts_new 0 compounds bodies [] (λ d low. refl))
+        ∙ grown.1 in
+        subst (λ l. slice_get l number ≡ Some (Const c)) (sym all) (read_more consts grown.0 number (Const c) here);
   }
 
   -- ---- all of it
@@ -141,7 +141,7 @@ module _ (compounds : List Bool) (bodies : List Named) (system : Named) (sets : 
       let all : so_far.before ≡ written = sym (so_far.written_are ∙ ap (λ l. so_far.before ++ l) no_rest ∙ append-nil so_far.before) in
       let here = text compounds bodies system so_far.nodes so_far.apart in
       let are : with_expressions [] (listed compounds bodies so_far.before) ≡ whole.leaves =
-          ap (λ l. with_expressions [] (listed compounds bodies l)) all ∙ sym (leaves_are compounds sets bodies system) in
+      ap (λ l. with_expressions [] (listed compounds bodies l)) all ∙ sym (leaves_are compounds sets bodies system) in
       let end : IsLeafTable here whole.leaves table = subst (λ l. IsLeafTable here l table) are so_far.table_is in
       let long : length table.numbers.keys ≡ length whole.leaves = zip_long compounds bodies system (IsNodeOf so_far.nodes) table.numbers.keys whole.leaves end.numbers_are in
       record {
@@ -149,13 +149,13 @@ module _ (compounds : List Bool) (bodies : List Named) (system : Named) (sets : 
         summands_are = record {
           one_each = ap length summands ∙ length-map table.operands (turned table.numbers.keys) ∙ sym (zip_long compounds bodies system (IsChoiceOf here) whole.leaves table.operands end.operands_are);
           each = λ number leaf list leaf_is list_is.
-            let read = map_read (turned table.numbers.keys) table.operands number list (subst (λ l. slice_get l number ≡ Some list) summands list_is) in
-            let choice = zip_read (IsChoiceOf here) whole.leaves table.operands number leaf read.0 end.operands_are leaf_is read.1 in
-            record {
-              process = choice.process;
-              first_written = choice.first_written;
-              are = sym read.2 ∙ operands_turned here table.numbers.keys whole.leaves end.numbers_are (chooser bodies choice.process) read.0 choice.operands_are ∙ sym (chosen_summands whole.leaves bodies choice.process);
-            };
+              let read = map_read (turned table.numbers.keys) table.operands number list (subst (λ l. slice_get l number ≡ Some list) summands list_is) in
+              let choice = zip_read (IsChoiceOf here) whole.leaves table.operands number leaf read.0 end.operands_are leaf_is read.1 in
+              record {
+                process = choice.process;
+                first_written = choice.first_written;
+                are = sym read.2 ∙ operands_turned here table.numbers.keys whole.leaves end.numbers_are (chooser bodies choice.process) read.0 choice.operands_are ∙ sym (chosen_summands whole.leaves bodies choice.process);
+              };
         };
         constants_are = subst (λ l. AreConstantLeaves whole compounds l) (sym constants) (constants_answer sizes);
         few = omega (arith, long, few);

@@ -1,8 +1,7 @@
 -- The leaves of a file, put into a table one after another.
-use Rattle.std.proofs.Common.{◌≡◌, ℕ, zero, suc, ◌+◌, ◌<◌, ◌≤◌, Bool, true, false, List, [], ◌∷◌, ◌++◌, map, reverse, length, get_or, Option, Some, None, ◌⊎◌, inl, inr, refl, sym, ap, ◌∙◌, subst, slice_get, append_assoc, true≢false, arith}
+use Rattle.std.proofs.Common.{◌≡◌, ℕ, zero, suc, ◌+◌, ◌<◌, ◌≤◌, Bool, true, false, List, [], ◌∷◌, ◌++◌, map, reverse, length, get_or, Option, Some, None, inl, inr, refl, sym, ap, ◌∙◌, subst, slice_get, append_assoc, true≢false, arith}
 use Rattle.std.specs.List.{AllZip, list_any}
 use Rattle.std.proofs.lemmas.List.{map-append, append-nil, reverse-append, length-append, length-map}
-use Rattle.pepa_rates.specs.declared.rate.Rate.{Rate}
 use Rattle.pepa_model.specs.Derivation.{Among}
 use Rattle.pepa_model.specs.Expression.{Expression, Const, Prefixed, Chosen}
 use Rattle.pepa_model.specs.Leaves.{same_expression}
@@ -15,14 +14,13 @@ use Rattle.pepa_checks.specs.declared.expressions.Head.{Head}
 use Rattle.pepa_checks.specs.declared.expressions.FileWalk.{FileWalk}
 use Rattle.pepa_checks.specs.declared.leaf_table.LeafTable.{LeafTable}
 use Rattle.pepa_checks.specs.Outline.{expression_in, outline_with}
-use Rattle.pepa_checks.specs.Activities.{IsFirstWritten, written_leaves}
+use Rattle.pepa_checks.specs.Activities.{written_leaves}
 use Rattle.pepa_checks.specs.NodeTables.{expressions_by}
 use Rattle.pepa_checks.specs.Candidates.{AreOperands, IsCandidate, Line, sequential_lines, IsHead, IsFileWalk}
 use Rattle.pepa_checks.specs.LeafTables.{with_expression, with_expressions, Text, chooser, IsChoiceOf, IsNodeOf, IsLeafTable, Adds}
-use Rattle.pepa_checks.proofs.ListReads.{true_or_false, one_read, some_same, some_none, read_or}
-use Rattle.pepa_checks.proofs.LeafSteps.{expression_equal}
+use Rattle.pepa_checks.proofs.ListReads.{some_same, some_none, read_or}
 use Rattle.pepa_checks.proofs.OutlineLeaves.{line_const, listed, with_expressions-append, length_grows, length_limit, any_listed, leaves_are}
-use Rattle.pepa_checks.proofs.WrittenLeaves.{IsPlain, among_cases, among_middle}
+use Rattle.pepa_checks.proofs.WrittenLeaves.{IsPlain, among_middle}
 
 -- ---- lines
 
@@ -162,9 +160,9 @@ module _ (compounds : List Bool) (bodies : List Named) (system : Named) where
       } in
       let added = adds here leaves number_is so_far.table_is (λ fresh. choice) in
       let more : with_expression leaves (Const head.constant) ≡ with_expressions [] (map line_const (so_far.before ++ line ∷ [])) =
-          ap (λ c. with_expression leaves (Const c)) top.holds.constant_is
-          ∙ sym (with_expressions-append [] (map line_const so_far.before) (Const line.constant ∷ []))
-          ∙ ap (with_expressions []) (sym (map-append line_const so_far.before (line ∷ []))) in
+      ap (λ c. with_expression leaves (Const c)) top.holds.constant_is
+      ∙ sym (with_expressions-append [] (map line_const so_far.before) (Const line.constant ∷ []))
+      ∙ ap (with_expressions []) (sym (map-append line_const so_far.before (line ∷ []))) in
       record {
         nodes = so_far.nodes;
         apart = so_far.apart;
@@ -198,10 +196,10 @@ module _ (compounds : List Bool) (bodies : List Named) (system : Named) where
       let split = parts before among in
       let consts = map line_const (sequential_lines 0 compounds bodies) in
       let spread : listed compounds bodies before ≡ (consts ++ map expression_in split.0) ++ e ∷ map expression_in split.1 =
-          ap (λ l. consts ++ map expression_in l) split.2
-          ∙ ap (λ l. consts ++ l) (map-append expression_in split.0 (other ∷ split.1))
-          ∙ ap (λ f. consts ++ (map expression_in split.0 ++ f ∷ map expression_in split.1)) is
-          ∙ sym (append_assoc consts (map expression_in split.0) (e ∷ map expression_in split.1)) in
+      ap (λ l. consts ++ map expression_in l) split.2
+      ∙ ap (λ l. consts ++ l) (map-append expression_in split.0 (other ∷ split.1))
+      ∙ ap (λ f. consts ++ (map expression_in split.0 ++ f ∷ map expression_in split.1)) is
+      ∙ sym (append_assoc consts (map expression_in split.0) (e ∷ map expression_in split.1)) in
       subst (λ l. list_any (same_expression e) (with_expressions [] l) ≡ true) (sym spread) (any_listed [] (consts ++ map expression_in split.0) e (map expression_in split.1))
     where
       parts : (xs : List Named) → Among other xs → (front : List Named) × (behind : List Named) × (xs ≡ front ++ other ∷ behind)
@@ -214,7 +212,7 @@ module _ (compounds : List Bool) (bodies : List Named) (system : Named) where
       let line = lines_have 0 compounds bodies c sizes flag in
       let same : c + 0 ≡ c = omega arith in
       let spread : listed compounds bodies before ≡ line.0 ++ Const c ∷ (line.1 ++ map expression_in before) =
-          ap (λ l. l ++ map expression_in before) (line.2 ∙ ap (λ n. line.0 ++ Const n ∷ line.1) same) ∙ append_assoc line.0 (Const c ∷ line.1) (map expression_in before) in
+      ap (λ l. l ++ map expression_in before) (line.2 ∙ ap (λ n. line.0 ++ Const n ∷ line.1) same) ∙ append_assoc line.0 (Const c ∷ line.1) (map expression_in before) in
       subst (λ l. list_any (same_expression (Const c)) (with_expressions [] l) ≡ true) (sym spread) (any_listed [] line.0 (Const c) (line.1 ++ map expression_in before))
 
   not_before : (before : List Named) (e : Expression) → list_any (same_expression e) (with_expressions [] (listed compounds bodies before)) ≡ false → (other : Named) → Among other before → ¬ (expression_in other ≡ e)
@@ -275,8 +273,8 @@ module _ (compounds : List Bool) (bodies : List Named) (system : Named) where
         let added = adds_it here leaves top.holds.number_is so_far.table_is (chosen so_far.nodes so_far.apart so_far.before top.others process candidate.operands sizes is_plain written top.holds.operands_are) in
         let consts = map line_const (sequential_lines 0 compounds bodies) in
         let more : with_expression leaves e ≡ with_expressions [] (listed compounds bodies (so_far.before ++ process ∷ [])) =
-            sym (with_expressions-append [] (listed compounds bodies so_far.before) (e ∷ []))
-            ∙ ap (with_expressions []) (append_assoc consts (map expression_in so_far.before) (e ∷ []) ∙ ap (λ l. consts ++ l) (sym (map-append expression_in so_far.before (process ∷ [])))) in
+        sym (with_expressions-append [] (listed compounds bodies so_far.before) (e ∷ []))
+        ∙ ap (with_expressions []) (append_assoc consts (map expression_in so_far.before) (e ∷ []) ∙ ap (λ l. consts ++ l) (sym (map-append expression_in so_far.before (process ∷ [])))) in
         record {
           nodes = so_far.nodes;
           apart = so_far.apart;
@@ -309,8 +307,8 @@ module _ (compounds : List Bool) (bodies : List Named) (system : Named) where
       let long = zip_long (IsNodeOf so_far.nodes) table.numbers.keys (with_expressions [] (listed compounds bodies so_far.before)) so_far.table_is.numbers_are in
       let consts = map line_const (sequential_lines 0 compounds bodies) in
       let spread : listed compounds bodies (written_leaves compounds bodies system) ≡ listed compounds bodies so_far.before ++ map expression_in so_far.rest =
-          ap (λ l. consts ++ map expression_in l) so_far.written_are ∙ ap (λ l. consts ++ l) (map-append expression_in so_far.before so_far.rest) ∙ sym (append_assoc consts (map expression_in so_far.before) (map expression_in so_far.rest)) in
+      ap (λ l. consts ++ map expression_in l) so_far.written_are ∙ ap (λ l. consts ++ l) (map-append expression_in so_far.before so_far.rest) ∙ sym (append_assoc consts (map expression_in so_far.before) (map expression_in so_far.rest)) in
       let all : (outline_with sets compounds bodies system).leaves ≡ with_expressions (with_expressions [] (listed compounds bodies so_far.before)) (map expression_in so_far.rest) =
-          leaves_are compounds sets bodies system ∙ ap (with_expressions []) spread ∙ with_expressions-append [] (listed compounds bodies so_far.before) (map expression_in so_far.rest) in
+      leaves_are compounds sets bodies system ∙ ap (with_expressions []) spread ∙ with_expressions-append [] (listed compounds bodies so_far.before) (map expression_in so_far.rest) in
       let grows = length_grows (with_expressions [] (listed compounds bodies so_far.before)) (map expression_in so_far.rest) in
       omega (arith, long, many, ap length all, grows)

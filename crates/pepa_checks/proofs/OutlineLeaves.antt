@@ -1,10 +1,10 @@
 -- The leaves of an outline, one expression after another.
-use Rattle.std.proofs.Common.{◌≡◌, ℕ, zero, suc, ◌+◌, ◌<◌, ◌≤◌, Bool, true, false, cond, not, ◌||◌, if◌then◌else◌, List, [], ◌∷◌, ◌++◌, map, flat_map, length, Option, Some, None, ◌⊎◌, inl, inr, refl, sym, ap, ◌∙◌, subst, slice_get, append_assoc, true≢false, arith}
+use Rattle.std.proofs.Common.{◌≡◌, ℕ, suc, ◌+◌, ◌≤◌, Bool, true, false, cond, not, ◌||◌, if◌then◌else◌, List, [], ◌∷◌, ◌++◌, map, flat_map, length, inl, inr, refl, sym, ap, ◌∙◌, subst, append_assoc, true≢false, arith}
 use Rattle.std.specs.List.{list_any}
 use Rattle.std.proofs.lemmas.List.{map-append, append-nil, length-append}
 use Rattle.std.proofs.lemmas.List.Elements.{filter-append}
-use Rattle.pepa_model.specs.Expression.{Expression, Const, Prefixed, Chosen, Shape, LeafShape, ConstShape, CoopShape, HideShape, Definition}
-use Rattle.pepa_model.specs.Leaves.{without, each_once, same_expression, followers, components, components_defined, sequential_constants, leaves_of}
+use Rattle.pepa_model.specs.Expression.{Expression, Const, LeafShape, ConstShape}
+use Rattle.pepa_model.specs.Leaves.{without, each_once, same_expression, followers, components, components_defined, sequential_constants}
 use Rattle.pepa_resolver.specs.Named.{Named, NamedConstant, NamedPrefix, NamedChoice, NamedCoop, NamedHide}
 use Rattle.pepa_checks.specs.Outline.{is_compound, expression_in, shape_in, definition_in, definitions_in, outline_with}
 use Rattle.pepa_checks.specs.Activities.{written_followers, written_components, written_in, written_leaves}
@@ -197,5 +197,5 @@ module _ (compounds : List Bool) (sets : List (List ℕ)) where
   leaves_are bodies system =
       ap (each_once same_expression)
       ((λ i. constants_same 0 compounds bodies i ++ (written_same compounds bodies i ++ components_same system i))
-        ∙ ap (λ (k : Expressions). map line_const (sequential_lines 0 compounds bodies) ++ k) (sym (map-append expression_in (written_in compounds compounds bodies) (written_components compounds system))))
+      ∙ ap (λ (k : Expressions). map line_const (sequential_lines 0 compounds bodies) ++ k) (sym (map-append expression_in (written_in compounds compounds bodies) (written_components compounds system))))
       ∙ sym (together [] (listed compounds bodies (written_leaves compounds bodies system)))

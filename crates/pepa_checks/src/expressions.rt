@@ -119,11 +119,7 @@ impl<'p> Walk<'p> {
     }
 
     /// Puts a process behind the candidates, behind those that follow its activities.
-    fn add_candidate(
-        &mut self,
-        alloc: Global,
-        process: &'p NamedProcess,
-    ) -> Result<(), AllocError>
+    fn add_candidate(&mut self, alloc: Global, process: &'p NamedProcess) -> Result<(), AllocError>
         requires { has_system (named_of process.now) ≡ false }
         ensures { OnOk result
             ((written : List Named) → Stands self.old written → Put self.old self.new (named_of process.now ∷ (written_followers (named_of process.now) ++ written))) }

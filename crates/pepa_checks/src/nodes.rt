@@ -4,7 +4,6 @@ ghost use Rattle.pepa_model.specs.Expression.{Expression};
 ghost use Rattle.std.specs.Cmp.{partial_equiv_from_equiv};
 ghost use Rattle.pepa_checks.specs.NodeTests.{same_key as same_key_by, same_node, key_fed, node_fed};
 ghost use Rattle.pepa_checks.specs.NodeLaws.{same_node_equiv, fed_alike};
-
 ghost use Rattle.pepa_checks.specs.NodeTables.{rate_by, Builds, IsNodeTable, expressions_by, Has};
 
 use indexmap::IndexSet;
@@ -12,7 +11,7 @@ use pepa_rates::Rate;
 use std::alloc::AllocError;
 use std::hash::{Hash, Hasher};
 
-/// A rate's kind, numerator and denominator.
+/// A rate's kind, numerator and denominator, by which it is compared and hashed.
 #[derive(Clone, Copy, Debug)]
 pub(crate) enum RateKey {
     Active(u64, u64),

@@ -13,9 +13,10 @@ loop-head-preserved c =
 pub loop-candidate-init : goal.loop-candidate-init
 loop-candidate-init c =
     let bodies = bodies_of c.args.bodies.now in
-    let system = named_of c.args.system.now in
-    (heads_end c.args.compounds.now bodies system c.loop-head.table c.loop-head.heads _ c.loop-head.invariant c.in_default.ensures.0,
-      heads_few c.args.compounds.now bodies system c.loop-head.table c.loop-head.heads _ c.loop-head.invariant (omega (arith, c.requires.few, length-map c.args.bodies.now named_of)))
+    let system = named_of c.args.system.now in (
+      heads_end c.args.compounds.now bodies system c.loop-head.table c.loop-head.heads _ c.loop-head.invariant c.in_default.ensures.0,
+      heads_few c.args.compounds.now bodies system c.loop-head.table c.loop-head.heads _ c.loop-head.invariant (omega (arith, c.requires.few, length-map c.args.bodies.now named_of)),
+    )
 
 pub add_candidate-requires : goal.add_candidate-requires
 add_candidate-requires c =
@@ -36,9 +37,10 @@ pub loop-candidate-preserved : goal.loop-candidate-preserved
 loop-candidate-preserved c =
     let bodies = bodies_of c.args.bodies.now in
     let system = named_of c.args.system.now in
-    let sizes : length c.args.compounds.now ≡ length bodies = c.requires.sizes ∙ sym (length-map c.args.bodies.now named_of) in
-    (candidates_more c.args.compounds.now bodies system sizes (written_plain c.args.compounds.now bodies system c.requires.compounds c.requires.sequential) c.loop-candidate.table c.add_candidate.new.self c.loop-candidate.candidates c.pop-in-loop-candidate.new.self c.in-Some-pop.candidate c.loop-candidate.invariant.0 c.in-Some-pop.ensures c.in_ok-add_candidate.ensures,
-      omega (arith, c.if-len-gt-MAX_LEAVES.false, c.len.ensures.len))
+    let sizes : length c.args.compounds.now ≡ length bodies = c.requires.sizes ∙ sym (length-map c.args.bodies.now named_of) in (
+      candidates_more c.args.compounds.now bodies system sizes (written_plain c.args.compounds.now bodies system c.requires.compounds c.requires.sequential) c.loop-candidate.table c.add_candidate.new.self c.loop-candidate.candidates c.pop-in-loop-candidate.new.self c.in-Some-pop.candidate c.loop-candidate.invariant.0 c.in-Some-pop.ensures c.in_ok-add_candidate.ensures,
+      omega (arith, c.if-len-gt-MAX_LEAVES.false, c.len.ensures.len),
+    )
 
 pub returns : goal.returns
 returns c = λ sets.
