@@ -28,3 +28,12 @@ pub mod Performances
 pub mod SoundLists
 pub mod Counted
 pub mod Countings
+pub mod ListReads
+pub mod NodeSteps
+pub mod WalkSteps
+pub mod FileWalks
+pub mod LeafSteps
+pub mod OutlineLeaves
+pub mod WrittenLeaves
+pub mod LeafLoops
+pub mod LeafAnswers

@@ -12,3 +12,9 @@ pub mod ActivityLists
 pub mod LeavesAnswers
 pub mod CountedFiles
 pub mod MadeModels
+pub mod FileEnds
+pub mod NodeTests
+pub mod NodeLaws
+pub mod NodeTables
+pub mod Candidates
+pub mod LeafTables

@@ -1,11 +1,12 @@
 -- What making a file's model needs, and what it makes.
 use Rattle.std.specs.Prelude.{◌≡◌, ◌≤◌, ℕ, List, length, map}
 use Rattle.indexmap.specs.IndexMap.{keys}
-use Rattle.pepa_model.specs.Expression.{expression_of}
+use Rattle.pepa_model.specs.Expression.{expression_of, definition_of, shape_of}
 use Rattle.pepa_model.specs.PepaModel.{PepaModel, IsModel}
 use Rattle.pepa_resolver.specs.declared.file_structure.StructuredFile.{StructuredFile}
 use Rattle.pepa_resolver.specs.NamedTypes.{named_of, bodies_of}
 use Rattle.pepa_checks.specs.declared.counting.Counted.{Counted}
+use Rattle.pepa_checks.specs.declared.model_making.NewParts.{NewParts}
 use Rattle.pepa_checks.specs.Outline.{definitions_in, shape_in}
 use Rattle.pepa_checks.specs.Sequences.{HasSequentialParts, AreBodies}
 
@@ -28,6 +29,13 @@ pub record IsReady (file : StructuredFile) (counted : Counted) : Type 0 where
   pub bodies : AreBodies file.compounds (bodies_of file.bodies)
   pub system : HasSequentialParts (named_of file.system)
   pub is_model : IsModel (made_of file counted)
+
+-- the parts of that model that are made anew
+pub record AreNewParts (file : StructuredFile) (counted : Counted) (parts : NewParts) : Type 0 where
+  pub bodies_are : map definition_of parts.bodies ≡ (made_of file counted).bodies
+  pub activities_are : parts.activities ≡ (made_of file counted).activities
+  pub sets_are : parts.sets ≡ (made_of file counted).sets
+  pub system_is : shape_of parts.system ≡ (made_of file counted).system
 
 -- it is made
 abbrev pub IsMade : StructuredFile → Counted → PepaModel → Type 0

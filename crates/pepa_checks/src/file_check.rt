@@ -6,18 +6,25 @@ ghost use Rattle.pepa_reader.specs.Terminals.{terminals};
 ghost use Rattle.pepa_reader.specs.Trees.{file_node_of};
 ghost use Rattle.pepa_reader.specs.FileAnswers.{IsFileTree};
 ghost use Rattle.pepa_resolver.specs.Named.{first_at};
-ghost use Rattle.pepa_resolver.specs.NamedTypes.{named_of};
+ghost use Rattle.indexmap.specs.IndexMap.{keys};
+ghost use Rattle.pepa_resolver.specs.NamedTypes.{named_of, bodies_of};
+ghost use Rattle.pepa_resolver.specs.Structure.{CompoundEdge, UnguardedEdge};
+ghost use Rattle.pepa_resolver.specs.Graphs.{IsOrder};
+ghost use Rattle.pepa_checks.specs.Built.{IsBuilt};
+ghost use Rattle.pepa_checks.specs.FileEnds.{Judges, IsWithin, EndsAs};
 ghost use Rattle.pepa_checks.specs.CheckedFiles.{Checks};
 
-use crate::counting::count;
+use crate::counting::{Counted, count};
 use crate::limit_end::LimitEnd;
 use crate::mixed::first_mixed;
 use crate::model_making::model_of;
 use pepa_lexer::Token;
 use pepa_model::Model;
 use pepa_reader::FileTree;
-use pepa_resolver::{CheckCause, CheckEnd, NamedProcess, check_names_rates_and_structure};
-use std::alloc::Global;
+use pepa_resolver::{
+    CheckCause, CheckEnd, NamedProcess, StructuredFile, check_names_rates_and_structure,
+};
+use std::alloc::{AllocError, Global};
 
 /// The index of the first constant of a process, or of the `(` of its first activity, whichever stands first.
 fn first_index(process: &NamedProcess) -> usize
@@ -32,6 +39,54 @@ fn first_index(process: &NamedProcess) -> usize
     }
 }
 
+/// Why a file without a fault up to its structure has no model.
+#[derive(Clone, Copy, Debug)]
+enum ModelEnd {
+    /// A limit is passed.
+    TooMany,
+    /// A leaf has a mixed activity, which is written at this index.
+    Mixed(usize),
+    /// Memory ran out.
+    Memory,
+}
+
+impl From<AllocError> for ModelEnd {
+    ghost use Rattle.pepa_checks.specs.declared.file_check.ModelEnd.TheVariants.{Memory};
+
+    ghost from_gives = { λ _ end. end ≡ Memory };
+
+    fn from(_error: AllocError) -> ModelEnd {
+        ModelEnd::Memory
+    }
+}
+
+impl From<LimitEnd> for ModelEnd {
+    ghost use Rattle.pepa_checks.specs.FileEnds.{model_end};
+
+    ghost from_gives = { λ end other. other ≡ model_end end };
+
+    fn from(end: LimitEnd) -> ModelEnd {
+        match end {
+            LimitEnd::TooMany => ModelEnd::TooMany,
+            LimitEnd::Memory => ModelEnd::Memory,
+        }
+    }
+}
+
+/// Counts the parts of a file, and looks for a mixed activity.
+fn judge(alloc: Global, file: &StructuredFile) -> Result<Counted, ModelEnd>
+    requires built { IsBuilt file.now.compounds (bodies_of file.now.bodies) (named_of file.now.system) }
+    requires compounds { IsOrder (CompoundEdge (bodies_of file.now.bodies)) (length (bodies_of file.now.bodies)) file.now.compound_order }
+    requires sequential { IsOrder (UnguardedEdge (bodies_of file.now.bodies)) (length (bodies_of file.now.bodies)) file.now.sequential_order }
+    ensures { Judges (keys file.now.actions) file.now.compounds (bodies_of file.now.bodies) (named_of file.now.system) result }
+{
+    let counted = count(alloc, file)?;
+    match first_mixed(alloc, counted.performed.as_slice())? {
+        Some(at) => Err(ModelEnd::Mixed(at)),
+        None => Ok(counted),
+    }
+}
+
 /// The refusal of a file for a cause, at the token at an index.
 fn refusal(tokens: &[Token], cause: CheckCause, at: usize) -> CheckEnd
     requires { at < length tokens.now }
@@ -39,6 +94,19 @@ fn refusal(tokens: &[Token], cause: CheckCause, at: usize) -> CheckEnd
 {
     let place = tokens[at].place;
     CheckEnd::Refused { cause, place }
+}
+
+/// How the check of a file with this system ends.
+fn ended(tokens: &[Token], system: &NamedProcess, end: ModelEnd) -> CheckEnd
+    requires system { first_at (named_of system.now) < length tokens.now }
+    requires mixed { IsWithin (length tokens.now) end }
+    ensures { EndsAs tokens.now (first_at (named_of system.now)) end result }
+{
+    match end {
+        ModelEnd::TooMany => refusal(tokens, CheckCause::TooMany, first_index(system)),
+        ModelEnd::Mixed(at) => refusal(tokens, CheckCause::MixedChoice, at),
+        ModelEnd::Memory => CheckEnd::Memory,
+    }
 }
 
 /// Checks a file, and gives its model.
@@ -74,16 +142,8 @@ pub fn check(
     ensures { Checks input.now tokens.now (file_node_of tree.now) result }
 {
     let file = check_names_rates_and_structure(alloc, tree, tokens, input)?;
-    let counted = match count(alloc, &file) {
-        Ok(counted) => counted,
-        Err(LimitEnd::TooMany) => {
-            let at = first_index(&file.system);
-            return Err(refusal(tokens, CheckCause::TooMany, at));
-        }
-        Err(LimitEnd::Memory) => return Err(CheckEnd::Memory),
-    };
-    if let Some(at) = first_mixed(alloc, counted.performed.as_slice())? {
-        return Err(refusal(tokens, CheckCause::MixedChoice, at));
+    match judge(alloc, &file) {
+        Ok(counted) => Ok(model_of(alloc, file, counted)?),
+        Err(end) => Err(ended(tokens, &file.system, end)),
     }
-    Ok(model_of(alloc, file, counted)?)
 }

@@ -1,17 +1,22 @@
 //! The leaves of a file, each with the operands of its choice.
-ghost use Rattle.std.specs.Prelude.{◌≡◌, ◌≤◌, length};
+ghost use Rattle.std.specs.Prelude.{◌≡◌, ◌≤◌, length, IfOk};
 ghost use Rattle.pepa_resolver.specs.NamedTypes.{named_of, bodies_of};
 ghost use Rattle.pepa_resolver.specs.Structure.{IsCompound, NotSequentialAt};
 ghost use Rattle.pepa_resolver.specs.Faults.{HasNone};
 ghost use Rattle.pepa_resolver.specs.Graphs.{IsTableOf};
-ghost use Rattle.pepa_checks.specs.LeavesAnswers.{FindsLeaves};
+ghost use Rattle.pepa_checks.specs.LeavesAnswers.{FindsLeaves, numbers_from};
 
+use crate::expressions::{FileWalk, walk_file};
+use crate::leaf_table::LeafTable;
 use crate::limit_end::LimitEnd;
 use crate::summand::Summand;
 use pepa_model::SequentialList;
 use pepa_resolver::NamedProcess;
 use sqlite_items::Items;
-use std::alloc::Global;
+use std::alloc::{AllocError, Global};
+
+/// How many leaves a model may have.
+const MAX_LEAVES: usize = 65_535;
 
 /// The leaves of a file.
 #[derive(Drop)]
@@ -24,17 +29,53 @@ pub(crate) struct Leaves {
     pub(crate) constants: Items<u32>,
 }
 
-pub(crate) fn leaves_of(
-    _alloc: Global,
-    _compounds: &[bool],
-    _bodies: &[NamedProcess],
-    _system: &NamedProcess,
-) -> Result<Leaves, LimitEnd>
-    requires few { length _bodies.now ≤ 1024 }
-    requires sizes { length _compounds.now ≡ length _bodies.now }
-    requires compounds { IsTableOf (IsCompound (bodies_of _bodies.now)) _compounds.now }
-    requires sequential { HasNone (NotSequentialAt (bodies_of _bodies.now) (named_of _system.now)) }
-    ensures { FindsLeaves _compounds.now (bodies_of _bodies.now) (named_of _system.now) result }
+/// The numbers of the leaves that are sequential constants, by constant: these are the first leaves.
+fn constant_leaves(alloc: Global, compounds: &[bool]) -> Result<Items<u32>, AllocError>
+    requires { length compounds.now ≤ 1024 }
+    ensures { IfOk result (λ numbers. numbers ≡ numbers_from 0 compounds.now) }
 {
-    Err(LimitEnd::Memory)
+    let mut numbers = Items::new(alloc);
+    let mut next = 0;
+    for compound in compounds {
+        numbers.push(next)?;
+        if !*compound {
+            next += 1;
+        }
+    }
+    Ok(numbers)
+}
+
+/// The leaves of the processes of a file, where the flags say which constants are compound. Equal expressions are found by their
+/// numbers, and each process is walked once.
+pub(crate) fn leaves_of(
+    alloc: Global,
+    compounds: &[bool],
+    bodies: &[NamedProcess],
+    system: &NamedProcess,
+) -> Result<Leaves, LimitEnd>
+    requires few { length bodies.now ≤ 1024 }
+    requires sizes { length compounds.now ≡ length bodies.now }
+    requires compounds { IsTableOf (IsCompound (bodies_of bodies.now)) compounds.now }
+    requires sequential { HasNone (NotSequentialAt (bodies_of bodies.now) (named_of system.now)) }
+    ensures { FindsLeaves compounds.now (bodies_of bodies.now) (named_of system.now) result }
+{
+    let FileWalk { walk, mut heads } = walk_file(alloc, compounds, bodies, system)?;
+    let mut table = LeafTable::new(alloc);
+    while let Some(head) = heads.pop() {
+        table.add_head(head)?;
+    }
+    let mut candidates = walk.candidates;
+    while let Some(candidate) = candidates.pop() {
+        table.add_candidate(alloc, candidate)?;
+        if table.numbers.len() > MAX_LEAVES {
+            return Err(LimitEnd::TooMany);
+        }
+    }
+    let summands = table.summands(alloc)?;
+    let constants = constant_leaves(alloc, compounds)?;
+    Ok(Leaves {
+        expressions: table.expressions,
+        summands,
+        constants,
+    })
 }

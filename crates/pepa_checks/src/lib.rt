@@ -2,13 +2,15 @@
 #![tactic(auto)]
 
 mod activities;
-
 mod counting;
+mod expressions;
 mod file_check;
+mod leaf_table;
 mod leaves;
 mod limit_end;
 mod mixed;
 mod model_making;
+mod nodes;
 mod number_set;
 mod sequential;
 mod sets;

@@ -1,12 +1,12 @@
 //! The model of a file that passes every check.
 ghost use Rattle.std.specs.Prelude.{◌≡◌, map, IfOk};
-ghost use Rattle.pepa_checks.specs.MadeModels.{IsReady, IsMade};
+ghost use Rattle.pepa_checks.specs.MadeModels.{IsReady, AreNewParts, IsMade};
 
 use crate::counting::Counted;
 use crate::sets::set_lists;
 use crate::shapes::{definitions, system_shape};
 use crate::summand::Performed;
-use pepa_model::{ActivityList, ActivityLists, Model};
+use pepa_model::{ActivityList, ActivityLists, Bodies, Model, Shape2, Words32List};
 use pepa_resolver::StructuredFile;
 use sqlite_items::Items;
 use std::alloc::{AllocError, Global};
@@ -36,6 +36,56 @@ fn activity_lists(
     Ok(made)
 }
 
+/// The parts of a model that are made anew.
+#[derive(Drop)]
+struct NewParts {
+    bodies: Bodies,
+    activities: ActivityLists,
+    sets: Words32List,
+    system: Shape2,
+}
+
+/// Makes the parts of a file's model that aren't there yet.
+fn new_parts(
+    alloc: Global,
+    file: &StructuredFile,
+    counted: &Counted,
+) -> Result<NewParts, AllocError>
+    requires { IsReady file.now counted.now }
+    ensures { IfOk result (λ parts. AreNewParts file.now counted.now parts) }
+{
+    let compounds = file.compounds.as_slice();
+    let bodies = definitions(alloc, compounds, &counted.sets, file.bodies.as_slice())?;
+    let activities = activity_lists(alloc, counted.performed.as_slice())?;
+    let sets = set_lists(alloc, &counted.sets)?;
+    let system = system_shape(alloc, compounds, &counted.sets, &file.system)?;
+    Ok(NewParts {
+        bodies,
+        activities,
+        sets,
+        system,
+    })
+}
+
+/// A model of a file's names and leaves and of these parts.
+fn joined(file: StructuredFile, counted: Counted, parts: NewParts) -> Model
+    requires ready { IsReady file counted }
+    requires parts { AreNewParts file counted parts }
+    ensures { IsMade file counted result }
+{
+    let names = file.names;
+    let leaves = counted.leaves;
+    Model {
+        constants: names.constants,
+        actions: file.actions,
+        bodies: parts.bodies,
+        leaves: leaves.expressions,
+        activities: parts.activities,
+        sets: parts.sets,
+        system: parts.system,
+    }
+}
+
 /// The model of a file that passes every check: its names, its sets and what its constants stand for, and its leaves with
 /// their activities.
 pub(crate) fn model_of(
@@ -46,20 +96,6 @@ pub(crate) fn model_of(
     requires { IsReady file counted }
     ensures { IfOk result (λ m. IsMade file counted m) }
 {
-    let compounds = file.compounds.as_slice();
-    let bodies = definitions(alloc, compounds, &counted.sets, file.bodies.as_slice())?;
-    let system = system_shape(alloc, compounds, &counted.sets, &file.system)?;
-    let activities = activity_lists(alloc, counted.performed.as_slice())?;
-    let sets = set_lists(alloc, &counted.sets)?;
-    let names = file.names;
-    let leaves = counted.leaves;
-    Ok(Model {
-        constants: names.constants,
-        actions: file.actions,
-        bodies,
-        leaves: leaves.expressions,
-        activities,
-        sets,
-        system,
-    })
+    let parts = new_parts(alloc, &file, &counted)?;
+    Ok(joined(file, counted, parts))
 }
