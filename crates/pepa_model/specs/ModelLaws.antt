@@ -3,13 +3,14 @@ use Rattle.std.specs.Prelude.{◌≡◌, ℕ, ◌^◌, ◌<◌, ◌≤◌, List,
 use Rattle.std.specs.List.{AllByRecursion}
 use Rattle.pepa_model.specs.Expression.{Expression}
 use Rattle.pepa_model.specs.Opened.{Opened, Opens, height}
-use Rattle.pepa_model.specs.PepaModel.{PepaModel}
+use Rattle.pepa_model.specs.PepaModel.{PepaModel, AreTransitionsOf}
 use Rattle.pepa_model.specs.declared.term.Activity.{Activity}
 
--- at this number there are activities, of the model's action types, and each leads to a leaf
-pub record HasActivities (m : PepaModel) (number : ℕ) : Type 0 where
+-- the activities at this number are the leaf's transitions, are of the model's action types, and each leads to a leaf
+pub record HasActivities (m : PepaModel) (number : ℕ) (e : Expression) : Type 0 where
   pub activities : List Activity
   pub stored : slice_get m.activities number ≡ Some activities
+  pub transitions : AreTransitionsOf m e activities
   pub actions : AllByRecursion (λ a. a.action < length m.actions) activities
   pub targets : AllByRecursion (λ a. a.target < length m.leaves) activities
 

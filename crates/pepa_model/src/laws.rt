@@ -1,5 +1,5 @@
 //! Laws of the definitions. Each function's contract is a law, and a call costs nothing.
-ghost use Rattle.std.specs.Prelude.{◌≡◌, ℕ, ◌<◌, List, Some, slice_get, length};
+ghost use Rattle.std.specs.Prelude.{◌≡◌, ℕ, List, Some, slice_get};
 ghost use Rattle.std.specs.Bool.{Decides};
 ghost use Rattle.pepa_model.specs.Expression.{Expression, Shape, WordTerm, Definition, IsCompound};
 ghost use Rattle.pepa_model.specs.Derivation.{Transition, IsTransitionList};
@@ -19,9 +19,9 @@ pub fn one_verdict()
     ensures apart { (definitions : List Definition) (term : WordTerm) (f : TermFault) → IsVerdict definitions term f → ¬ IsWithoutFault definitions term }
 {}
 
-/// At each leaf's number there are its activities, and each activity leads to a leaf.
+/// At each leaf's number there are its activities, and each of them leads to a leaf.
 pub fn every_target_is_a_leaf()
-    ensures { (m : PepaModel) → IsModel m → (number : ℕ) → number < length m.leaves → HasActivities m number }
+    ensures { (m : PepaModel) → IsModel m → (number : ℕ) (e : Expression) → slice_get m.leaves number ≡ Some e → HasActivities m number e }
 {}
 
 /// The constants of each leaf open into a finite tree, which is at most 2^21 high: a recursion through them ends.
