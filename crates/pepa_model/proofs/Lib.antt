@@ -1,2 +1,4 @@
 pub mod TransitionLists
 pub mod OneList
+pub mod ModelLaws
+pub mod DistinctLeaves

@@ -9,3 +9,4 @@ pub mod Leaves
 pub mod PepaModel
 pub mod ModelView
 pub mod Terms
+pub mod ModelLaws

@@ -13,6 +13,8 @@ pub mod Verdicts
 pub mod Printable
 pub mod NumberingNames
 pub mod NumberingLists
+pub mod FirstPlaceNumbers
+pub mod ModelNumbers
 pub mod NumberedModel
 pub mod NumberingSteps
 pub mod NumberedText

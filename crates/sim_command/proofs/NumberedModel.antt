@@ -1,5 +1,5 @@
 -- The model of a text keeps what each model keeps.
-use Rattle.std.proofs.Common.{◌≡◌, ℕ, zero, suc, ◌+◌, ◌<◌, ◌≤◌, List, [], ◌∷◌, ◌++◌, map, fold, length, slice_get, Some, refl, sym, ap, ◌∙◌, subst, arith, lit≤, append_assoc, append-nil, length-append}
+use Rattle.std.proofs.Common.{◌≡◌, ℕ, zero, suc, ◌+◌, ◌<◌, ◌≤◌, List, [], ◌∷◌, ◌++◌, map, fold, length, slice_get, Some, codes, refl, sym, ap, ◌∙◌, subst, arith, lit≤, append_assoc, append-nil, length-append}
 use Rattle.std.specs.Option.{option_map}
 use Rattle.std.specs.List.{AllByRecursion, AllZip}
 use Rattle.std.proofs.lemmas.List.{length-map}
@@ -17,6 +17,7 @@ use Rattle.sim_command.specs.declared.small_text.SmallText.{SmallText}
 use Rattle.sim_command.specs.SmallText.{IsLine}
 use Rattle.sim_command.specs.Numbering.{number_in, constants_of, prefixes_of, actions_of, prefix_expression, choice_of, definition_of_activities, activity_of, activities_of, leaves_of, IsWellNamed, model_of}
 use Rattle.sim_command.proofs.NumberingNames.{number_within}
+use Rattle.sim_command.proofs.ModelNumbers.{distinct_too, distinct_places, actions_by_place, sets_by_place, leaves_by_place, activity_count, all_map, unmixed}
 
 -- ---- a choice of prefixes opens into a tree
 
@@ -97,10 +98,6 @@ line_at (line ∷ lines) (suc number) are lt =
     let len = length-append line.prefixes (prefixes_of lines) in
     record { line = rest.line; at = rest.at; some = rest.some; few = let few : length rest.line.prefixes ≤ length (prefixes_of lines) = rest.few in omega arith }
 
-all_map : {X Y : Type 0} (P : Y → Type 0) (f : X → Y) → ((x : X) → P (f x)) → (xs : List X) → AllByRecursion P (map f xs)
-all_map P f each [] = tt
-all_map P f each (x ∷ xs) = (each x, all_map P f each xs)
-
 got_map : {X Y : Type 0} (f : X → Y) (xs : List X) (number : ℕ) (x : X) → slice_get xs number ≡ Some x → slice_get (map f xs) number ≡ Some (f x)
 got_map f xs number x at = slice_get-map f xs number ∙ ap (option_map f) at
 
@@ -163,6 +160,12 @@ module _ (text : SmallText) (are_lines : AllByRecursion IsLine text.lines) (few 
         named = omega arith;
       }
 
+  within : (name : List ℕ) → number_in (constants_of text.lines) name < length text.lines
+  within name =
+      let inside = number_within (constants_of text.lines) name (some_constant text.system (constants_of text.lines) named.system) in
+      let count = constant_count in
+      omega arith
+
   pub is_model : IsModel (model_of text)
   is_model = record {
     bodies = length-map (activities_of (constants_of text.lines) (actions_of text.lines) text.lines) definition_of_activities ∙ length-map text.lines line_list ∙ sym constant_count;
@@ -172,9 +175,27 @@ module _ (text : SmallText) (are_lines : AllByRecursion IsLine text.lines) (few 
         let same : Const number ≡ e = same_Some (Const number) e (sym (leaf_at (length text.lines) number lt) ∙ at) in
         subst (IsSoundLeaf (model_of text) number) same (sound_leaf number lt);
     activities = length-map text.lines line_list ∙ sym (length-map-range_with_len Const 0 (length text.lines));
-    few_leaves = let len : length (leaves_of (length text.lines)) ≡ length text.lines = length-map-range_with_len Const 0 (length text.lines) in omega arith;
+    unmixed = unmixed (constants_of text.lines) (actions_of text.lines) text.lines;
     sets = λ number set at. absurd (no_set number set at);
     compounds = λ c shape is. absurd (none_compound (activities_of (constants_of text.lines) (actions_of text.lines) text.lines) c shape is);
     system = (number_in (constants_of text.lines) text.system, system_leaf text named);
-    expanded = record { tree = LeafTree (Const (number_in (constants_of text.lines) text.system)); expands = refl; few = lit≤ tt; shallow = lit≤ tt };
+    few_leaves = record {
+      expanded = record { tree = LeafTree (Const (number_in (constants_of text.lines) text.system)); expands = refl; shallow = lit≤ tt };
+      few = lit≤ tt;
+    };
+    numbered = record {
+      constants = distinct_too (constants_of text.lines) named.distinct;
+      actions = distinct_places (codes "tau" ∷ map (λ p. p.action) (prefixes_of text.lines));
+      sets = tt;
+      actions_by_place = actions_by_place (constants_of text.lines) text.lines (number_in (constants_of text.lines) text.system);
+      sets_by_place = sets_by_place (activities_of (constants_of text.lines) (actions_of text.lines) text.lines) (number_in (constants_of text.lines) text.system);
+      leaves_by_place = leaves_by_place (constants_of text.lines) (actions_of text.lines) text.lines (number_in (constants_of text.lines) text.system) (within text.system) within;
+    };
+    limits = record {
+      constants = let count = constant_count in omega arith;
+      actions = named.few_actions;
+      sets = lit≤ tt;
+      leaves = let len : length (leaves_of (length text.lines)) ≡ length text.lines = length-map-range_with_len Const 0 (length text.lines) in omega arith;
+      activities = let sum = activity_count activity text.lines in let few = named.few_prefixes in omega arith;
+    };
   }

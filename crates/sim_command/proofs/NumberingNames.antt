@@ -107,7 +107,7 @@ any-without x name (other ∷ names) apart =
           ∙ ap (λ (b : Bool). bytes_eq name other || b) (any-without x name names apart)
     ]
 
-with_name-there : (names : Names) (name : List ℕ) → list_any (bytes_eq name) names ≡ true → with_name names name ≡ names
+pub with_name-there : (names : Names) (name : List ℕ) → list_any (bytes_eq name) names ≡ true → with_name names name ≡ names
 with_name-there names name e = ap (λ (b : Bool). if b then names else (names ++ name ∷ [])) e
 
 pub without_any : (b : Bool) → not b ≡ true → b ≡ false
