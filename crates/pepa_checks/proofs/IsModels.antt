@@ -45,7 +45,7 @@ use Rattle.pepa_checks.proofs.BuiltFiles.{sound_built, named_from}
 
 -- ---- limits as bounds
 
-at_most : (n limit : ℕ) → ¬ (limit < n) → n ≤ limit
+pub at_most : (n limit : ℕ) → ¬ (limit < n) → n ≤ limit
 at_most n limit apart = by (nat_lt limit n) refl
   where
     by : (b : Bool) → nat_lt limit n ≡ b → n ≤ limit

@@ -37,3 +37,4 @@ pub mod OutlineLeaves
 pub mod WrittenLeaves
 pub mod LeafLoops
 pub mod LeafAnswers
+pub mod Judgements

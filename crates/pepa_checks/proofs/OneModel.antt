@@ -130,7 +130,7 @@ one_activities o (e ∷ leaves) (x ∷ xs) (y ∷ ys) h k =
 abbrev made : (constants actions : List (List ℕ)) (bodies : List Definition) (leaves : List Expression) (activities : List (List Activity)) (sets : List (List ℕ)) (system : Shape) → PepaModel
 made constants actions bodies leaves activities sets system = record { constants = constants; actions = actions; bodies = bodies; leaves = leaves; activities = activities; sets = sets; system = system }
 
-same_parts : (m n : PepaModel) → m.constants ≡ n.constants → m.actions ≡ n.actions → m.bodies ≡ n.bodies → m.leaves ≡ n.leaves → m.activities ≡ n.activities → m.sets ≡ n.sets → m.system ≡ n.system → m ≡ n
+pub same_parts : (m n : PepaModel) → m.constants ≡ n.constants → m.actions ≡ n.actions → m.bodies ≡ n.bodies → m.leaves ≡ n.leaves → m.activities ≡ n.activities → m.sets ≡ n.sets → m.system ≡ n.system → m ≡ n
 same_parts m n c a b l t s y =
     ap (λ (x : List (List ℕ)). made x m.actions m.bodies m.leaves m.activities m.sets m.system) c
     ∙ ap (λ (x : List (List ℕ)). made n.constants x m.bodies m.leaves m.activities m.sets m.system) a
