@@ -27,3 +27,4 @@ pub mod ProcessKinds
 pub mod Performances
 pub mod SoundLists
 pub mod Counted
+pub mod OneRefusal

@@ -2,6 +2,7 @@
 #![tactic(auto)]
 
 mod activities;
+pub mod laws;
 mod mixed;
 mod number_set;
 mod sequential;
