@@ -1,25 +1,18 @@
 -- A text has at most one model.
-use Rattle.std.proofs.Common.{◌≡◌, ℕ, zero, suc, ◌+◌, ◌≤◌, ◌<◌, Bool, true, false, List, [], ◌∷◌, ◌++◌, map, length, take, get_or, Option, Some, slice_get, refl, sym, ap, ◌∙◌, subst, arith}
+use Rattle.std.proofs.Common.{◌≡◌, ℕ, Bool, List, [], ◌∷◌, length, refl, sym, ap, ◌∙◌, subst}
 use Rattle.std.specs.List.{AllZip}
-use Rattle.std.proofs.lemmas.List.{take_all, length-map}
-use Rattle.std.proofs.lemmas.Option.{slice_get-get_or}
-use Rattle.pepa_rates.specs.declared.rate.Rate.{Rate}
 use Rattle.pepa_lexer.specs.declared.kinds.Token.{Token}
 use Rattle.pepa_lexer.proofs.OneAnswer.{one_list}
 use Rattle.pepa_reader.specs.declared.trees.FileTree.{FileTree}
 use Rattle.pepa_reader.specs.declared.terminal.Terminal.{Terminal}
-use Rattle.pepa_reader.specs.Grammar.{File}
 use Rattle.pepa_reader.specs.Terminals.{terminals}
-use Rattle.pepa_reader.specs.Trees.{NumberAt, RateLineNode, FileNode, file_node_of, file_tree}
+use Rattle.pepa_reader.specs.Trees.{FileNode, file_node_of, file_tree}
 use Rattle.pepa_reader.specs.FileAnswers.{IsFileTree}
 use Rattle.pepa_reader.proofs.ItemLaws.{one_file}
 use Rattle.pepa_model.specs.Expression.{Expression, Definition, Shape}
 use Rattle.pepa_model.specs.PepaModel.{PepaModel}
 use Rattle.pepa_model.specs.declared.term.Activity.{Activity}
-use Rattle.pepa_resolver.specs.Parts.{name_at}
-use Rattle.pepa_resolver.specs.Outcomes.{Outcome, Good, AreOutcomes, looked_up, rate_outcome}
 use Rattle.pepa_resolver.specs.Named.{Named}
-use Rattle.pepa_resolver.specs.Numbers.{constants_of, actions_of, naming_of, named_bodies, named_system}
 use Rattle.pepa_resolver.specs.Structure.{IsCompound}
 use Rattle.pepa_resolver.specs.Graphs.{IsTableOf}
 use Rattle.pepa_resolver.proofs.OneNumbering.{one_table, one_list_of_bodies, one_named_system}
@@ -79,8 +72,8 @@ one_file_model input tokens file m n a b =
     let same = same_outline input tokens file a.sound b.sound in
     let leaves : m.leaves ≡ n.leaves = a.leaves_are ∙ ap (λ (o : Outline). o.leaves) same ∙ sym b.leaves_are in
     let others : AllZip (HasActivities (outline a.sound)) m.leaves n.activities =
-        subst (λ (l : List Expression). AllZip (HasActivities (outline a.sound)) l n.activities) (sym leaves)
-        (subst (λ (o : Outline). AllZip (HasActivities o) n.leaves n.activities) (sym same) b.activities_are) in
+    subst (λ (l : List Expression). AllZip (HasActivities (outline a.sound)) l n.activities) (sym leaves)
+    (subst (λ (o : Outline). AllZip (HasActivities o) n.leaves n.activities) (sym same) b.activities_are) in
     same_parts m n
     (a.constants_are ∙ sym b.constants_are) (a.actions_are ∙ sym b.actions_are)
     (a.bodies_are ∙ ap (λ (o : Outline). o.definitions) same ∙ sym b.bodies_are)
@@ -100,5 +93,5 @@ one_model input m n a b =
     let tree : IsFileTree (terminals input a.tokens) b.tree = subst (λ (l : List Token). IsFileTree (terminals input l) b.tree) (sym tokens) b.is_tree in
     let node : file_node_of a.tree ≡ file_node_of b.tree = one_node (terminals input a.tokens) a.tree b.tree a.is_tree tree in
     let model : IsModelOf input a.tokens (file_node_of a.tree) n =
-        subst (λ (f : FileNode). IsModelOf input a.tokens f n) (sym node) (subst (λ (l : List Token). IsModelOf input l (file_node_of b.tree) n) (sym tokens) b.is_model) in
+    subst (λ (f : FileNode). IsModelOf input a.tokens f n) (sym node) (subst (λ (l : List Token). IsModelOf input l (file_node_of b.tree) n) (sym tokens) b.is_model) in
     one_file_model input a.tokens (file_node_of a.tree) m n a.is_model model

@@ -1,5 +1,5 @@
 -- A file is refused for at most one cause, at one index, and then it has no model.
-use Rattle.std.proofs.Common.{◌≡◌, ℕ, ◌<◌, ◌⊎◌, inl, inr, Bool, List, [], ◌∷◌, ◌++◌, slice_get, Some, refl, sym, ◌∙◌, ap, subst, arith}
+use Rattle.std.proofs.Common.{◌≡◌, ℕ, ◌<◌, inl, inr, Bool, List, [], ◌∷◌, ◌++◌, slice_get, refl, sym, ◌∙◌, ap, subst, arith}
 use Rattle.std.proofs.lemmas.Option.{same_Some}
 use Rattle.pepa_lexer.specs.declared.kinds.Token.{Token}
 use Rattle.pepa_reader.specs.declared.trees.FileTree.{FileTree}
@@ -8,7 +8,7 @@ use Rattle.pepa_reader.specs.Trees.{FileNode, file_node_of}
 use Rattle.pepa_reader.specs.FileAnswers.{IsFileTree}
 use Rattle.pepa_model.specs.Expression.{Expression, Const, Prefixed, Chosen}
 use Rattle.pepa_model.specs.Derivation.{Among}
-use Rattle.pepa_model.specs.Opened.{Opened, Opens}
+use Rattle.pepa_model.specs.Opened.{Opened}
 use Rattle.pepa_model.specs.PepaModel.{PepaModel, IsMixedAt}
 use Rattle.pepa_resolver.specs.declared.cause.CheckCause.{CheckCause}
 use Rattle.pepa_resolver.specs.declared.cause.CheckCause.TheVariants.{TooMany, MixedChoice}
@@ -21,7 +21,7 @@ use Rattle.pepa_resolver.proofs.OneRefusal.{IsFine, file_judges}
 use Rattle.pepa_checks.specs.Outline.{Outline, outline_of, expression_in}
 use Rattle.pepa_checks.specs.Activities.{activities_in, sites, written_leaves, IsFirstWritten, HasMixed, HasNoMixed, IsMixedLeaf, IsFirstMixed}
 use Rattle.pepa_checks.specs.Limits.{PassesLimit}
-use Rattle.pepa_checks.specs.CheckedFiles.{Sound, outline, IsOverLimit, IsRefusedFor, IsModelOf}
+use Rattle.pepa_checks.specs.CheckedFiles.{Sound, IsRefusedFor, IsModelOf}
 use Rattle.pepa_checks.proofs.OneTree.{one_opening}
 use Rattle.pepa_checks.proofs.OneModel.{same_bodies, same_system, same_compounds}
 
@@ -61,19 +61,19 @@ one_site o bodies written leaf i j h k =
     let place : h.place ≡ k.place = neither h.place k.place (λ lt. k.first h.place lt mixed) (λ lt. h.first k.place lt kept) in
     let process : h.process ≡ k.process = one_written written leaf h.process k.process h.first_written k.first_written in
     same_Some i j (
-      sym h.site
-      ∙ ap (λ (t : Opened). slice_get (sites bodies h.process t) h.place) tree
-      ∙ ap (λ (p : Named). slice_get (sites bodies p k.opened) h.place) process
-      ∙ ap (slice_get (sites bodies k.process k.opened)) place
-      ∙ k.site
+    sym h.site
+    ∙ ap (λ (t : Opened). slice_get (sites bodies h.process t) h.place) tree
+    ∙ ap (λ (p : Named). slice_get (sites bodies p k.opened) h.place) process
+    ∙ ap (slice_get (sites bodies k.process k.opened)) place
+    ∙ k.site
     )
 
 one_mixed : (o : Outline) (bodies written : List Named) (i j : ℕ) → IsFirstMixed o bodies written i → IsFirstMixed o bodies written j → i ≡ j
 one_mixed o bodies written i j h k =
     let number : h.number ≡ k.number =
-        neither h.number k.number
-        (λ lt. k.first h.number h.leaf lt h.is_leaf (has_mixed o bodies written h.leaf i h.mixed))
-        (λ lt. h.first k.number k.leaf lt k.is_leaf (has_mixed o bodies written k.leaf j k.mixed)) in
+    neither h.number k.number
+    (λ lt. k.first h.number h.leaf lt h.is_leaf (has_mixed o bodies written h.leaf i h.mixed))
+    (λ lt. h.first k.number k.leaf lt k.is_leaf (has_mixed o bodies written k.leaf j k.mixed)) in
     let leaf : h.leaf ≡ k.leaf = same_Some h.leaf k.leaf (sym h.is_leaf ∙ ap (slice_get o.leaves) number ∙ k.is_leaf) in
     one_site o bodies written k.leaf i j (subst (λ (e : Expression). IsMixedLeaf o bodies written e i) leaf h.mixed) k.mixed
 

@@ -41,7 +41,7 @@ pub fn one_refusal()
     ensures { (input : List ℕ) (tokens : List Token) (tree : FileTree) (cause other : CheckCause) (i j : ℕ) → IsFileTree (terminals input tokens) tree → IsStoppedFor input tokens (file_node_of tree) cause i → IsStoppedFor input tokens (file_node_of tree) other j → (cause ≡ other) × (i ≡ j) }
 {}
 
-/// A law: a file that is refused has no numbers, since a check before them refuses it, or its structure has a fault.
+/// A law: a file that is refused has no numbers in place of its names, or its structure has a fault.
 pub fn refused_or_structured()
     ensures { (input : List ℕ) (tokens : List Token) (tree : FileTree) (cause : CheckCause) (i : ℕ) (values : List Rate) (bodies : List Named) (system : Named) → IsFileTree (terminals input tokens) tree → IsStoppedFor input tokens (file_node_of tree) cause i → IsNumbered input tokens (file_node_of tree) values bodies system → ¬ IsStructured bodies system }
 {}
