@@ -38,3 +38,4 @@ pub mod WrittenLeaves
 pub mod LeafLoops
 pub mod LeafAnswers
 pub mod Judgements
+pub mod OneRefusal

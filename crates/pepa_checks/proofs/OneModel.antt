@@ -1,107 +1,34 @@
 -- A text has at most one model.
-use Rattle.std.proofs.Common.{◌≡◌, ℕ, zero, suc, ◌+◌, ◌≤◌, ◌<◌, Bool, true, false, List, [], ◌∷◌, ◌++◌, map, length, take, get_or, Option, Some, slice_get, refl, sym, ap, ◌∙◌, subst, arith}
+use Rattle.std.proofs.Common.{◌≡◌, ℕ, Bool, List, [], ◌∷◌, length, refl, sym, ap, ◌∙◌, subst}
 use Rattle.std.specs.List.{AllZip}
-use Rattle.std.proofs.lemmas.List.{take_all, length-map}
-use Rattle.std.proofs.lemmas.Option.{slice_get-get_or}
-use Rattle.pepa_rates.specs.declared.rate.Rate.{Rate}
 use Rattle.pepa_lexer.specs.declared.kinds.Token.{Token}
 use Rattle.pepa_lexer.proofs.OneAnswer.{one_list}
 use Rattle.pepa_reader.specs.declared.trees.FileTree.{FileTree}
 use Rattle.pepa_reader.specs.declared.terminal.Terminal.{Terminal}
-use Rattle.pepa_reader.specs.Grammar.{File}
 use Rattle.pepa_reader.specs.Terminals.{terminals}
-use Rattle.pepa_reader.specs.Trees.{NumberAt, RateLineNode, FileNode, file_node_of, file_tree}
+use Rattle.pepa_reader.specs.Trees.{FileNode, file_node_of, file_tree}
 use Rattle.pepa_reader.specs.FileAnswers.{IsFileTree}
 use Rattle.pepa_reader.proofs.ItemLaws.{one_file}
 use Rattle.pepa_model.specs.Expression.{Expression, Definition, Shape}
 use Rattle.pepa_model.specs.PepaModel.{PepaModel}
 use Rattle.pepa_model.specs.declared.term.Activity.{Activity}
-use Rattle.pepa_resolver.specs.Parts.{name_at}
-use Rattle.pepa_resolver.specs.Outcomes.{Outcome, Good, AreOutcomes, looked_up, rate_outcome}
 use Rattle.pepa_resolver.specs.Named.{Named}
-use Rattle.pepa_resolver.specs.Numbers.{constants_of, actions_of, naming_of, named_bodies, named_system}
 use Rattle.pepa_resolver.specs.Structure.{IsCompound}
 use Rattle.pepa_resolver.specs.Graphs.{IsTableOf}
-use Rattle.pepa_resolver.proofs.EdgeLists.{take_body}
+use Rattle.pepa_resolver.proofs.OneNumbering.{one_table, one_list_of_bodies, one_named_system}
 use Rattle.pepa_checks.specs.Outline.{Outline, outline_of}
 use Rattle.pepa_checks.specs.Activities.{HasActivities, activities_in}
 use Rattle.pepa_checks.specs.CheckedFiles.{Sound, outline, IsModelOf, Reads}
 use Rattle.pepa_checks.proofs.OneTree.{one_opening}
 
--- ---- the values of rates
-
-module _ (tokens : List Token) (name : ℕ → List ℕ) (lines : List RateLineNode) where
-  abbrev any_line : RateLineNode
-  any_line = record { line_at = 0; rate = NumberAt 0 }
-
-  same_front : (os ps : List (Outcome Rate)) → AreOutcomes tokens name lines os → AreOutcomes tokens name lines ps → (n : ℕ) → n ≤ length lines → take n os ≡ take n ps
-  same_front os ps a b zero le = refl
-  same_front os ps a b (suc n) le =
-      let before : take n os ≡ take n ps = same_front os ps a b n (omega arith) in
-      let line = get_or lines n any_line in
-      let at : slice_get lines n ≡ Some line = slice_get-get_or lines n any_line (omega arith) in
-      let outcome : List (Outcome Rate) → Outcome Rate = λ front. rate_outcome tokens (looked_up name (take n lines) front) line.rate in
-      let next : suc n ≡ n + 1 = omega arith in
-      ap (λ (k : ℕ). take k os) next ∙ take_body os n (outcome (take n os)) (a.each n line at)
-      ∙ ap (λ (front : List (Outcome Rate)). front ++ outcome front ∷ []) before
-      ∙ sym (take_body ps n (outcome (take n ps)) (b.each n line at)) ∙ sym (ap (λ (k : ℕ). take k ps) next)
-
-  pub one_outcomes : (os ps : List (Outcome Rate)) → AreOutcomes tokens name lines os → AreOutcomes tokens name lines ps → os ≡ ps
-  one_outcomes os ps a b =
-      let all : (xs : List (Outcome Rate)) → length xs ≡ length lines → length xs ≤ length lines = λ xs e. omega arith in
-      sym (whole os a.count) ∙ same_front os ps a b (length lines) (omega arith) ∙ whole ps b.count
-    where
-      whole : (xs : List (Outcome Rate)) → length xs ≡ length lines → take (length lines) xs ≡ xs
-      whole xs e = subst (λ (n : ℕ). take n xs ≡ xs) e (every xs)
-        where
-          every : (ys : List (Outcome Rate)) → take (length ys) ys ≡ ys
-          every [] = refl
-          every (y ∷ ys) = ap (λ (l : List (Outcome Rate)). y ∷ l) (every ys)
-
-same_good : (xs ys : List Rate) → map Good xs ≡ map Good ys → xs ≡ ys
-same_good [] [] e = refl
-same_good [] (y ∷ ys) e = absurd cc
-same_good (x ∷ xs) [] e = absurd cc
-same_good (x ∷ xs) (y ∷ ys) e =
-    let first : x ≡ y = cc in
-    let rest : map Good xs ≡ map Good ys = cc in
-    ap (λ (z : Rate). z ∷ xs) first ∙ ap (λ (l : List Rate). y ∷ l) (same_good xs ys rest)
-
--- ---- tables
-
-same_flags : (xs ys : List Bool) → length xs ≡ length ys → ((k : ℕ) → slice_get xs k ≡ Some true → slice_get ys k ≡ Some true) → ((k : ℕ) → slice_get ys k ≡ Some true → slice_get xs k ≡ Some true) → xs ≡ ys
-same_flags [] [] e to from = refl
-same_flags [] (y ∷ ys) e to from = absurd (omega arith)
-same_flags (x ∷ xs) [] e to from = absurd (omega arith)
-same_flags (x ∷ xs) (y ∷ ys) e to from =
-    ap (λ (b : Bool). b ∷ xs) (first x y (to zero) (from zero))
-    ∙ ap (λ (l : List Bool). y ∷ l) (same_flags xs ys (omega arith) (λ k. to (suc k)) (λ k. from (suc k)))
-  where
-    first : (a b : Bool) → (◌≡◌ {A = Option Bool} (Some a) (Some true) → ◌≡◌ {A = Option Bool} (Some b) (Some true)) → (◌≡◌ {A = Option Bool} (Some b) (Some true) → ◌≡◌ {A = Option Bool} (Some a) (Some true)) → a ≡ b
-    first true b to from = let h = to refl in cc
-    first false true to from = let h = from refl in cc
-    first false false to from = refl
-
-pub one_table : (Holds : ℕ → Type 0) (xs ys : List Bool) → length xs ≡ length ys → IsTableOf Holds xs → IsTableOf Holds ys → xs ≡ ys
-one_table Holds xs ys e a b = same_flags xs ys e (λ k marked. b.complete k (a.sound k marked)) (λ k marked. a.complete k (b.sound k marked))
-
 -- ---- a file without a fault of its structure
 
 module _ (input : List ℕ) (tokens : List Token) (file : FileNode) (s t : Sound input tokens file) where
-  pub one_value_list : s.values ≡ t.values
-  one_value_list = same_good s.values t.values (one_outcomes tokens (name_at input tokens) file.rates (map Good s.values) (map Good t.values) s.numbered.rates.lines t.numbered.rates.lines)
-
   pub same_bodies : s.bodies ≡ t.bodies
-  same_bodies =
-      s.numbered.bodies_are
-      ∙ ap (λ (v : List Rate). named_bodies (naming_of (name_at input tokens) tokens file v) file) one_value_list
-      ∙ sym t.numbered.bodies_are
+  same_bodies = one_list_of_bodies input tokens file s.values t.values s.bodies t.bodies s.system t.system s.numbered t.numbered
 
   pub same_system : s.system ≡ t.system
-  same_system =
-      s.numbered.system_is
-      ∙ ap (λ (v : List Rate). named_system (naming_of (name_at input tokens) tokens file v) file) one_value_list
-      ∙ sym t.numbered.system_is
+  same_system = one_named_system input tokens file s.values t.values s.bodies t.bodies s.system t.system s.numbered t.numbered
 
   pub same_compounds : s.compounds ≡ t.compounds
   same_compounds =
@@ -145,8 +72,8 @@ one_file_model input tokens file m n a b =
     let same = same_outline input tokens file a.sound b.sound in
     let leaves : m.leaves ≡ n.leaves = a.leaves_are ∙ ap (λ (o : Outline). o.leaves) same ∙ sym b.leaves_are in
     let others : AllZip (HasActivities (outline a.sound)) m.leaves n.activities =
-        subst (λ (l : List Expression). AllZip (HasActivities (outline a.sound)) l n.activities) (sym leaves)
-        (subst (λ (o : Outline). AllZip (HasActivities o) n.leaves n.activities) (sym same) b.activities_are) in
+    subst (λ (l : List Expression). AllZip (HasActivities (outline a.sound)) l n.activities) (sym leaves)
+    (subst (λ (o : Outline). AllZip (HasActivities o) n.leaves n.activities) (sym same) b.activities_are) in
     same_parts m n
     (a.constants_are ∙ sym b.constants_are) (a.actions_are ∙ sym b.actions_are)
     (a.bodies_are ∙ ap (λ (o : Outline). o.definitions) same ∙ sym b.bodies_are)
@@ -166,5 +93,5 @@ one_model input m n a b =
     let tree : IsFileTree (terminals input a.tokens) b.tree = subst (λ (l : List Token). IsFileTree (terminals input l) b.tree) (sym tokens) b.is_tree in
     let node : file_node_of a.tree ≡ file_node_of b.tree = one_node (terminals input a.tokens) a.tree b.tree a.is_tree tree in
     let model : IsModelOf input a.tokens (file_node_of a.tree) n =
-        subst (λ (f : FileNode). IsModelOf input a.tokens f n) (sym node) (subst (λ (l : List Token). IsModelOf input l (file_node_of b.tree) n) (sym tokens) b.is_model) in
+    subst (λ (f : FileNode). IsModelOf input a.tokens f n) (sym node) (subst (λ (l : List Token). IsModelOf input l (file_node_of b.tree) n) (sym tokens) b.is_model) in
     one_file_model input a.tokens (file_node_of a.tree) m n a.is_model model

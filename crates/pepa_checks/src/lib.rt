@@ -5,6 +5,7 @@ mod activities;
 mod counting;
 mod expressions;
 mod file_check;
+pub mod laws;
 mod leaf_table;
 mod leaves;
 mod limit_end;

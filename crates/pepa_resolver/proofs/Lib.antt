@@ -28,3 +28,7 @@ pub mod EdgeLists
 pub mod Structured
 pub mod Stops
 pub mod WellBuilt
+pub mod Starts
+pub mod Judges
+pub mod OneNumbering
+pub mod OneRefusal

@@ -3,6 +3,7 @@
 ghost use Rattle.std.specs.Prelude.{◌≡◌, ◌↔◌, ℕ, ◌<◌, List, length, Some, slice_get};
 ghost use Rattle.std.specs.List.{Contains};
 ghost use Rattle.std.specs.List.Sorted.{IsStrictlyIncreasing};
+ghost use Rattle.pepa_rates.specs.declared.rate.Rate.{Rate};
 ghost use Rattle.pepa_lexer.specs.declared.kinds.Token.{Token};
 ghost use Rattle.pepa_reader.specs.declared.trees.FileTree.{FileTree};
 ghost use Rattle.pepa_reader.specs.Terminals.{terminals};
@@ -12,8 +13,10 @@ ghost use Rattle.pepa_resolver.specs.declared.cause.CheckCause.{CheckCause};
 ghost use Rattle.pepa_resolver.specs.Parts.{constants_in, processes_of};
 ghost use Rattle.pepa_resolver.specs.Faults.{HasNone, UnknownAt};
 ghost use Rattle.pepa_resolver.specs.NamesAnswers.{IsRefusedFor};
-ghost use Rattle.pepa_resolver.specs.Named.{set_of};
+ghost use Rattle.pepa_resolver.specs.Named.{Named, set_of};
 ghost use Rattle.pepa_resolver.specs.Numbers.{words_in, place_in, constants_of, actions_of};
+ghost use Rattle.pepa_resolver.specs.StructureAnswers.{IsStructured};
+ghost use Rattle.pepa_resolver.specs.StructuredFiles.{IsNumbered, IsStoppedFor};
 
 /// A law: a file is refused at one of its tokens.
 pub fn is_refused_at_a_token()
@@ -31,4 +34,14 @@ pub fn sets_ascend()
 pub fn numbers_stand_for_names()
     ensures actions { (name : ℕ → List ℕ) (file : FileNode) (process : ProcessNode) (i : ℕ) → Contains (processes_of file) process → Contains (words_in process) i → slice_get (actions_of name file) (place_in (actions_of name file) (name i)) ≡ Some (name i) }
     ensures constants { (name : ℕ → List ℕ) (file : FileNode) (process : ProcessNode) (i : ℕ) → Contains (processes_of file) process → HasNone (UnknownAt name file) → Contains (constants_in process) i → slice_get (constants_of name file) (place_in (constants_of name file) (name i)) ≡ Some (name i) }
+{}
+
+/// A law: a file is refused for at most one cause, at one index.
+pub fn one_refusal()
+    ensures { (input : List ℕ) (tokens : List Token) (tree : FileTree) (cause other : CheckCause) (i j : ℕ) → IsFileTree (terminals input tokens) tree → IsStoppedFor input tokens (file_node_of tree) cause i → IsStoppedFor input tokens (file_node_of tree) other j → (cause ≡ other) × (i ≡ j) }
+{}
+
+/// A law: a file that is refused has no numbers in place of its names, or its structure has a fault.
+pub fn refused_or_structured()
+    ensures { (input : List ℕ) (tokens : List Token) (tree : FileTree) (cause : CheckCause) (i : ℕ) (values : List Rate) (bodies : List Named) (system : Named) → IsFileTree (terminals input tokens) tree → IsStoppedFor input tokens (file_node_of tree) cause i → IsNumbered input tokens (file_node_of tree) values bodies system → ¬ IsStructured bodies system }
 {}

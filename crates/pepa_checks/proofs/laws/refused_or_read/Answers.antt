@@ -1,0 +1,5 @@
+use Rattle.pepa_checks.proofs.OneRefusal.{refused_or_read}
+use Rattle.pepa_checks.proofs.laws.refused_or_read.Goals as goal
+
+pub returns : goal.returns
+returns c = refused_or_read
