@@ -1,26 +1,23 @@
 -- What counting the parts of a file says of its limits.
-use Rattle.std.proofs.Common.{◌≡◌, ℕ, ◌<◌, ◌≤◌, Bool, true, false, List, length, map, inl, inr, refl, sym, ap, ◌∙◌, subst, arith, IsTrue, Err}
-use Rattle.std.specs.Prelude.{sum_by, ◌⊎◌}
+use Rattle.std.proofs.Common.{◌≡◌, ℕ, ◌≤◌, Bool, false, List, length, inl, inr, ap, arith, IsTrue, Err}
+use Rattle.std.specs.Prelude.{sum_by}
 use Rattle.std.specs.Map.{keys_of}
 use Rattle.std.proofs.lemmas.List.{length-map}
 use Rattle.indexmap.specs.IndexMap.{keys}
-use Rattle.pepa_model.specs.Expression.{Expression, expression_of}
-use Rattle.pepa_model.specs.Opened.{Opened, Opens}
 use Rattle.pepa_resolver.specs.Named.{Named}
 use Rattle.pepa_resolver.specs.Structure.{CompoundEdge, UnguardedEdge}
 use Rattle.pepa_resolver.specs.Graphs.{IsOrder}
 use Rattle.pepa_checks.specs.declared.leaves.Leaves.{Leaves}
 use Rattle.pepa_checks.specs.declared.counting.Counted.{Counted}
-use Rattle.pepa_checks.specs.declared.summand.Performed.{Performed}
 use Rattle.pepa_checks.specs.declared.limit_end.LimitEnd.{LimitEnd}
 use Rattle.pepa_checks.specs.declared.limit_end.LimitEnd.TheVariants.{TooMany, Memory}
 use Rattle.pepa_checks.specs.Outline.{Outline, outline_of, sets_of}
 use Rattle.pepa_checks.specs.Activities.{written_leaves}
-use Rattle.pepa_checks.specs.Limits.{PassesLimit, HasManyActivities, HasManyLeaves}
+use Rattle.pepa_checks.specs.Limits.{PassesLimit}
 use Rattle.pepa_checks.specs.Summands.{ArePerformed}
 use Rattle.pepa_checks.specs.Built.{IsBuilt}
 use Rattle.pepa_checks.specs.LeavesAnswers.{AreLeaves}
-use Rattle.pepa_checks.specs.ActivityLists.{LeafChoices, OpensIntoMany, IsActivitiesEnd}
+use Rattle.pepa_checks.specs.ActivityLists.{LeafChoices, IsActivitiesEnd}
 use Rattle.pepa_checks.specs.CountedFiles.{IsCounted, Counts}
 use Rattle.pepa_checks.proofs.Openings.{leaf_opens}
 use Rattle.pepa_checks.proofs.Expansions.{system_expands}

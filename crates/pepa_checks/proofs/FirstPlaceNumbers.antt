@@ -1,5 +1,5 @@
 -- Numbers by first places: each new one is the next.
-use Rattle.std.proofs.Common.{◌≡◌, ℕ, zero, suc, ◌+◌, ◌-◌, ◌<◌, ◌≤◌, Bool, true, false, cond, not, ◌&&◌, ◌||◌, nat_lt, nat_le, nat_eq, List, [], ◌∷◌, ◌++◌, map, filter, length, Option, Some, None, position, unwrap_or, bytes_eq, ◌⊎◌, inl, inr, refl, sym, ap, ◌∙◌, subst, arith, append_assoc, length-append}
+use Rattle.std.proofs.Common.{◌≡◌, ℕ, zero, suc, ◌+◌, ◌-◌, ◌<◌, ◌≤◌, Bool, true, false, cond, not, ◌&&◌, ◌||◌, nat_lt, nat_eq, List, [], ◌∷◌, ◌++◌, map, filter, length, Some, None, unwrap_or, bytes_eq, ◌⊎◌, inl, inr, refl, sym, ap, ◌∙◌, subst, arith, append_assoc, length-append}
 use Rattle.std.specs.List.{Contains, list_any, position_or_len, range_with_len}
 use Rattle.std.proofs.lemmas.Bool.Decides.{nat_tests}
 use Rattle.std.proofs.lemmas.Slice.Eq.{bytes_eq-Decides}
@@ -8,7 +8,7 @@ use Rattle.pepa_resolver.specs.Named.{set_of}
 use Rattle.pepa_resolver.specs.Numbers.{first_places, place_in}
 use Rattle.pepa_resolver.specs.NumberSteps.{with_name, with_names}
 use Rattle.pepa_resolver.proofs.Findings.{no_element, contains_here, contains_there, contains_cases}
-use Rattle.pepa_resolver.proofs.NumberNames.{true_or_false, with_name-there, with_name-new, append-nothing, names_together}
+use Rattle.pepa_resolver.proofs.NumberNames.{with_name-there, with_name-new, append-nothing, names_together}
 use Rattle.pepa_resolver.proofs.Ascending.{Ascends, set_ascends, set_has, set_no_more}
 
 -- where the numbers below `from` are known, those of the list make known all below `to`: each is known, or the next one
@@ -69,7 +69,7 @@ ascending_grows from to (x ∷ xs) up le below has = by (nat_lt x from) refl (λ
         inl (
           lt,
           rest from le (λ y among. below y (contains_there x xs y among))
-          (λ y low high. elim (contains_cases x xs y (has y low high)) [ inl same ↦ absurd (omega arith) | inr k ↦ k ]),
+              (λ y low high. elim (contains_cases x xs y (has y low high)) [ inl same ↦ absurd (omega arith) | inr k ↦ k ]),
         )
     by false e rest =
         let ge : from ≤ x = grind (arith, nat_tests) in
@@ -78,7 +78,7 @@ ascending_grows from to (x ∷ xs) up le below has = by (nat_lt x from) refl (λ
         inr (
           same,
           rest (suc from) (omega arith) (λ y among. below y (contains_there x xs y among))
-          (λ y low lt. elim (contains_cases x xs y (has y (omega arith) lt)) [ inl is ↦ absurd (omega arith) | inr k ↦ k ]),
+              (λ y low lt. elim (contains_cases x xs y (has y (omega arith) lt)) [ inl is ↦ absurd (omega arith) | inr k ↦ k ]),
         )
 
 -- a set makes known what its numbers as they are written make known
@@ -150,8 +150,8 @@ once_from from to (x ∷ xs) (inr g) =
     let tested : from_on from x ≡ true = next x from g.0 in
     ap (λ (b : Bool). cond b (x ∷ filter (from_on from) (without nat_eq x (each_once nat_eq xs))) (filter (from_on from) (without nat_eq x (each_once nat_eq xs)))) tested
     ∙ ap (λ (l : List ℕ). x ∷ l)
-      (filter_twice (from_on from) (λ y. not (nat_eq x y)) (from_on (suc from)) (λ y. next_apart x from y g.0) (each_once nat_eq xs)
-      ∙ once_from (suc from) to xs g.1)
+    (filter_twice (from_on from) (λ y. not (nat_eq x y)) (from_on (suc from)) (λ y. next_apart x from y g.0) (each_once nat_eq xs)
+    ∙ once_from (suc from) to xs g.1)
     ∙ ap (λ (n : ℕ). n ∷ range_with_len (suc from) (to - suc from)) g.0
     ∙ ap (λ (n : ℕ). from ∷ range_with_len n (to - suc from)) (plus_one from)
     ∙ sym (ap (range_with_len from) more)
@@ -228,7 +228,7 @@ names_grow before (name ∷ more) =
     let all : Names = first_places (before ++ name ∷ more) in
     let same : first_places ((before ++ name ∷ []) ++ more) ≡ all = ap first_places (append_assoc before (name ∷ []) more) in
     let rest : Grows (length (first_places (before ++ name ∷ []))) (map (place_in all) more) (length all) =
-        subst (λ (l : Names). Grows (length (first_places (before ++ name ∷ []))) (map (place_in l) more) (length l)) same (names_grow (before ++ name ∷ []) more) in
+    subst (λ (l : Names). Grows (length (first_places (before ++ name ∷ []))) (map (place_in l) more) (length l)) same (names_grow (before ++ name ∷ []) more) in
     let one : first_places (before ++ name ∷ []) ≡ with_name (first_places before) name = sym (names_together before (name ∷ [])) in
     let whole : all ≡ with_names (with_name (first_places before) name) more = sym (names_together before (name ∷ more)) in
     by all (first_places before) (list_any (bytes_eq name) (first_places before)) refl whole

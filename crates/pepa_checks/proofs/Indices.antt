@@ -1,23 +1,21 @@
 -- The indices at which a file's limits and mixed choices are told are those of its tokens.
-use Rattle.std.proofs.Common.{◌≡◌, ℕ, zero, suc, ◌<◌, Bool, true, false, if◌then◌else◌, List, [], ◌∷◌, ◌++◌, map, length, get_or, Some, slice_get, inl, inr, refl, sym, ap, ◌∙◌, subst}
-use Rattle.std.specs.List.{Contains, AllByRecursion}
-use Rattle.std.proofs.lemmas.List.Elements.{Contains-append_cases}
+use Rattle.std.proofs.Common.{◌≡◌, ℕ, zero, suc, ◌<◌, Bool, true, false, if◌then◌else◌, List, [], ◌∷◌, ◌++◌, map, length, get_or, Some, slice_get, sym, subst}
+use Rattle.std.specs.List.{AllByRecursion}
 use Rattle.pepa_rates.specs.declared.rate.Rate.{Rate}
 use Rattle.pepa_lexer.specs.declared.kinds.Token.{Token}
 use Rattle.pepa_reader.specs.declared.trees.FileTree.{FileTree}
 use Rattle.pepa_reader.specs.Terminals.{terminals}
-use Rattle.pepa_reader.specs.Trees.{ProcessNode, ConstantAt, PrefixAt, ChoiceOf, CoopAt, HideOf, ProcessLineNode, FileNode, file_node_of}
+use Rattle.pepa_reader.specs.Trees.{ProcessNode, ConstantAt, PrefixAt, ChoiceOf, CoopAt, HideOf, ProcessLineNode, file_node_of}
 use Rattle.pepa_reader.specs.FileAnswers.{IsFileTree}
 use Rattle.pepa_model.specs.Expression.{Expression, Const, Prefixed, Chosen}
 use Rattle.pepa_model.specs.Opened.{Opened, OpenPrefix, OpenChoice, OpenConst}
 use Rattle.pepa_resolver.specs.Parts.{name_at}
 use Rattle.pepa_resolver.specs.Named.{Named, NamedConstant, NamedPrefix, NamedChoice, NamedCoop, NamedHide, Naming, named, first_at}
-use Rattle.pepa_resolver.specs.Numbers.{naming_of, named_bodies, named_system}
+use Rattle.pepa_resolver.specs.Numbers.{naming_of}
 use Rattle.pepa_resolver.specs.StructuredFiles.{IsNumbered}
-use Rattle.pepa_resolver.proofs.Findings.{no_element, contains_here, contains_there, contains_cases}
 use Rattle.pepa_resolver.proofs.Within.{EachInProcess, EachInFile, Inside}
 use Rattle.pepa_resolver.proofs.Structured.{each_inside, first_each}
-use Rattle.pepa_checks.specs.Outline.{is_compound, expression_in}
+use Rattle.pepa_checks.specs.Outline.{is_compound}
 use Rattle.pepa_checks.specs.Activities.{sites, written_followers, written_components, written_in, written_leaves, IsFirstWritten}
 
 -- ---- the activities of a process

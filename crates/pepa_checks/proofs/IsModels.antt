@@ -1,11 +1,10 @@
 -- The model of a file keeps what each model keeps.
-use Rattle.std.proofs.Common.{◌≡◌, ℕ, zero, suc, ◌+◌, ◌^◌, ◌<◌, ◌≤◌, ◌⊎◌, inl, inr, Bool, true, false, nat_lt, List, [], ◌∷◌, ◌++◌, map, flat_map, length, sum_by, Some, slice_get, codes, refl, sym, ap, ◌∙◌, subst, arith}
+use Rattle.std.proofs.Common.{◌≡◌, ℕ, zero, suc, ◌^◌, ◌<◌, ◌≤◌, inl, inr, Bool, true, false, nat_lt, List, [], ◌∷◌, ◌++◌, map, flat_map, length, sum_by, Some, slice_get, codes, refl, sym, ap, ◌∙◌, subst, arith}
 use Rattle.std.specs.List.{Contains, AllByRecursion, AllZip}
 use Rattle.std.proofs.lemmas.Bool.Decides.{nat_tests}
 use Rattle.std.proofs.lemmas.List.{length-map}
 use Rattle.std.proofs.lemmas.List.Sums.{sum_by-cons}
 use Rattle.std.proofs.lemmas.List.Elements.{Contains-append_left, Contains-append_right}
-use Rattle.pepa_rates.specs.declared.rate.Rate.{Rate}
 use Rattle.pepa_lexer.specs.declared.kinds.Token.{Token}
 use Rattle.pepa_lexer.specs.TokenLists.{IsTokens}
 use Rattle.pepa_reader.specs.declared.trees.FileTree.{FileTree}
@@ -14,7 +13,7 @@ use Rattle.pepa_reader.specs.Trees.{ProcessLineNode, FileNode, file_node_of}
 use Rattle.pepa_reader.specs.FileAnswers.{IsFileTree}
 use Rattle.pepa_model.specs.Expression.{Expression, Shape, IsCompound}
 use Rattle.pepa_model.specs.Opened.{Opened, Opens, moves, height}
-use Rattle.pepa_model.specs.Expanded.{Expanded, Expands, leaves_in, height_of}
+use Rattle.pepa_model.specs.Expanded.{leaves_in}
 use Rattle.pepa_model.specs.PepaModel.{PepaModel, IsModel, IsSoundLeaf, IsCompoundBody, HasTree, StandsForTransition, HasFewLeaves, IsNumbered, IsWithinLimits, IsActionSet, AreUnmixed, IsMixedAt}
 use Rattle.pepa_model.specs.declared.term.Activity.{Activity}
 use Rattle.pepa_resolver.specs.Parts.{name_at, process_ats, processes_of}
@@ -25,9 +24,8 @@ use Rattle.pepa_resolver.specs.Graphs.{AreBelow, IsOrder}
 use Rattle.pepa_resolver.proofs.Findings.{contains_here}
 use Rattle.pepa_resolver.proofs.Bodies.{contains_from_get}
 use Rattle.pepa_resolver.proofs.NumberedFile.{in_range}
-use Rattle.pepa_checks.specs.Outline.{Outline, sets_written, outline_of, outline_with, sets_of, shape_in, definitions_in}
-use Rattle.pepa_checks.specs.Activities.{activity_in, activities_in, HasActivities, HasNoMixed}
-use Rattle.pepa_checks.specs.Limits.{PassesLimit}
+use Rattle.pepa_checks.specs.Outline.{Outline, sets_written, sets_of}
+use Rattle.pepa_checks.specs.Activities.{activity_in, HasActivities, HasNoMixed}
 use Rattle.pepa_checks.specs.Sequences.{HasSequentialParts, AreBodies}
 use Rattle.pepa_checks.specs.Built.{IsBuilt}
 use Rattle.pepa_checks.specs.CheckedFiles.{Sound, outline, IsOverLimit}
@@ -151,8 +149,8 @@ module _ (input : List ℕ) (tokens : List Token) (tree : FileTree) (are : IsTok
   range : (process : Named) → Contains (bodies ++ sound.system ∷ []) process → IsInRange (length (constants_of name file)) (length (actions_of name file)) process
   range process among =
       let whole : Contains (named_bodies naming file ++ named_system naming file ∷ []) process =
-          subst (λ (ps : List Named). Contains ps process)
-          (ap (λ (bs : List Named). bs ++ sound.system ∷ []) sound.numbered.bodies_are ∙ ap (λ (s : Named). named_bodies naming file ++ s ∷ []) sound.numbered.system_is) among in
+      subst (λ (ps : List Named). Contains ps process)
+      (ap (λ (bs : List Named). bs ++ sound.system ∷ []) sound.numbered.bodies_are ∙ ap (λ (s : Named). named_bodies naming file ++ s ∷ []) sound.numbered.system_is) among in
       let from = named_from naming file process whole in
       let r = in_range name tokens file sound.values sound.numbered.fine.0.1 from.0 from.1 in
       let lines : length file.processes ≡ length (constants_of name file) = sym (length-map (process_ats file.processes) name ∙ length-map file.processes (λ (line : ProcessLineNode). line.line_at)) in
@@ -241,7 +239,7 @@ module _ (input : List ℕ) (tokens : List Token) (tree : FileTree) (are : IsTok
   action_set : (number : ℕ) (set : List ℕ) → slice_get m.sets number ≡ Some set → IsActionSet m set
   action_set number set at =
       let same : sets_of bodies sound.system ≡ sets_of (named_bodies naming file) (named_system naming file) =
-          ap (λ (bs : List Named). sets_of bs sound.system) sound.numbered.bodies_are ∙ ap (sets_of (named_bodies naming file)) sound.numbered.system_is in
+      ap (λ (bs : List Named). sets_of bs sound.system) sound.numbered.bodies_are ∙ ap (sets_of (named_bodies naming file)) sound.numbered.system_is in
       let s = sound_set input tokens file naming are sound.numbered.fine.1 (λ i. refl) number set (subst (λ (l : List (List ℕ)). slice_get l number ≡ Some set) same at) in
       record { ascends = s.ascends; no_tau = s.no_tau; known = s.known }
 

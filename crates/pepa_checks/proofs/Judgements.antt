@@ -1,9 +1,7 @@
 -- What is told of a file without a fault up to its structure.
-use Rattle.std.proofs.Common.{◌≡◌, ℕ, zero, suc, ◌<◌, ◌≤◌, Bool, List, [], ◌∷◌, ◌++◌, length, map, inl, inr, refl, sym, ap, ◌∙◌, subst, arith, Some, slice_get, get_or, Ok, Err}
-use Rattle.std.specs.Prelude.{◌⊎◌}
+use Rattle.std.proofs.Common.{◌≡◌, ℕ, zero, suc, ◌<◌, List, [], ◌∷◌, length, map, inl, inr, refl, sym, ap, ◌∙◌, subst, arith, Some, slice_get, Err}
 use Rattle.std.specs.List.{AllZip}
 use Rattle.std.proofs.lemmas.List.{length-map}
-use Rattle.std.proofs.lemmas.Option.{slice_get-get_or, slice_get_within}
 use Rattle.indexmap.specs.IndexMap.{keys}
 use Rattle.pepa_lexer.specs.declared.kinds.Token.{Token}
 use Rattle.pepa_lexer.specs.TokenLists.{IsTokens}
@@ -11,10 +9,8 @@ use Rattle.pepa_reader.specs.declared.trees.FileTree.{FileTree}
 use Rattle.pepa_reader.specs.Terminals.{terminals}
 use Rattle.pepa_reader.specs.Trees.{file_node_of}
 use Rattle.pepa_reader.specs.FileAnswers.{IsFileTree}
-use Rattle.pepa_model.specs.Expression.{Expression, Const, expression_of}
-use Rattle.pepa_model.specs.Opened.{Opened, Opens}
+use Rattle.pepa_model.specs.Expression.{Expression}
 use Rattle.pepa_model.specs.PepaModel.{PepaModel, IsModel}
-use Rattle.pepa_model.specs.declared.term.Activity.{Activity}
 use Rattle.pepa_resolver.specs.declared.file_structure.StructuredFile.{StructuredFile}
 use Rattle.pepa_resolver.specs.declared.cause.CheckEnd.{CheckEnd}
 use Rattle.pepa_resolver.specs.Named.{Named, first_at}
@@ -28,8 +24,8 @@ use Rattle.pepa_checks.specs.declared.counting.Counted.{Counted}
 use Rattle.pepa_checks.specs.declared.summand.Performed.{Performed}
 use Rattle.pepa_checks.specs.declared.file_check.ModelEnd.{ModelEnd}
 use Rattle.pepa_checks.specs.declared.file_check.ModelEnd.TheVariants.{TooMany, Mixed, Memory}
-use Rattle.pepa_checks.specs.Outline.{Outline, outline_of, outline_with, sets_of}
-use Rattle.pepa_checks.specs.Activities.{HasActivities, HasNoMixed, IsFirstMixed, written_leaves, activities_in}
+use Rattle.pepa_checks.specs.Outline.{Outline, outline_of, outline_with}
+use Rattle.pepa_checks.specs.Activities.{HasActivities, HasNoMixed, written_leaves}
 use Rattle.pepa_checks.specs.Limits.{PassesLimit}
 use Rattle.pepa_checks.specs.Summands.{ArePerformed}
 use Rattle.pepa_checks.specs.Built.{IsBuilt}
@@ -60,8 +56,8 @@ module _ (outline : Outline) (bodies written : List Named) (each : EachOpens out
   pub performed_activities : (lists : List (List Performed)) → ArePerformed outline bodies written lists → AllZip (HasActivities outline) outline.leaves (map activities lists)
   performed_activities lists are =
       have_activities outline.leaves lists are.one_each (λ n leaf list is list_is.
-        let tree = each n leaf is in
-        (tree.0, tree.1, ((are.each n leaf list is list_is).performed tree.0 tree.1).activities))
+      let tree = each n leaf is in
+      (tree.0, tree.1, ((are.each n leaf list is list_is).performed tree.0 tree.1).activities))
 
 -- ---- a file that was found
 

@@ -2,15 +2,15 @@
 use Rattle.std.proofs.Common.{◌≡◌, ℕ, zero, suc, ◌+◌, ◌<◌, List, [], ◌∷◌, ◌++◌, map, flat_map, length, Some, slice_get, inl, inr, refl, sym, ap, ◌∙◌, subst, arith}
 use Rattle.std.specs.List.{Contains, AllByRecursion, AllZip}
 use Rattle.std.proofs.lemmas.List.Elements.{Contains-append_left, Contains-append_right, Contains-append_cases}
-use Rattle.pepa_model.specs.Expression.{Expression, Const, Prefixed, Chosen, WordTerm, LeafOf, Shape, LeafShape, ConstShape, CoopShape, HideShape, Definition, Sequentially, Compoundly, Defines}
+use Rattle.pepa_model.specs.Expression.{Expression, Const, Prefixed, Chosen, WordTerm, LeafOf, Shape, LeafShape, ConstShape, CoopShape, HideShape, Definition, Sequentially, Compoundly}
 use Rattle.pepa_model.specs.Derivation.{Transition}
 use Rattle.pepa_model.specs.Opened.{Opened, OpenPrefix, OpenChoice, OpenConst, Opens, moves}
-use Rattle.pepa_model.specs.Leaves.{each_once, same_expression, followers, components, components_defined, sequential_constants, leaves_of}
+use Rattle.pepa_model.specs.Leaves.{same_expression, followers, components, components_defined, sequential_constants, leaves_of}
 use Rattle.pepa_model.specs.PepaModel.{PepaModel, StandsForTransition, IsNamed}
 use Rattle.pepa_model.specs.declared.term.Activity.{Activity}
 use Rattle.pepa_resolver.proofs.Findings.{no_element, contains_here, contains_there, contains_cases}
 use Rattle.pepa_resolver.proofs.Bodies.{contains_from_get}
-use Rattle.pepa_checks.specs.Activities.{leaf_number, target_number, activity_in, activities_in}
+use Rattle.pepa_checks.specs.Activities.{target_number, activity_in, activities_in}
 use Rattle.pepa_checks.proofs.LeafProcesses.{once_from}
 use Rattle.pepa_checks.proofs.LeafNumbers.{same_expression-Decides, once_keeps, leaf_stands}
 
@@ -220,9 +220,9 @@ module _ (m : PepaModel) where
         elim (Contains-append_cases (sequential_constants 0 definitions) rest e (leaf_from definitions system e h)) [
           | inl there ↦ constants_named 0 definitions e (λ c lt. let k : 0 + c ≡ c = omega arith in subst (λ (n : ℕ). n < length m.constants) (sym k) (omega arith)) there
           | inr other ↦ elim (Contains-append_cases (flat_map components_defined definitions) (components system) e other) [
-              | inl there ↦ all_named definitions e named there
-              | inr there ↦ components_named system e named_system there
-            ]
+            | inl there ↦ all_named definitions e named there
+            | inr there ↦ components_named system e named_system there
+          ]
         ]
 
     -- so are the action types of its transitions

@@ -1,13 +1,12 @@
 -- Names that are listed once, and the name `tau`.
-use Rattle.std.proofs.Common.{◌≡◌, ℕ, zero, suc, ◌+◌, Bool, true, false, cond, not, nat_eq, List, [], ◌∷◌, ◌++◌, map, length, bytes_eq, Option, Some, None, slice_get, slice_range, codes, ◌⊎◌, inl, inr, refl, sym, ap, ◌∙◌, subst, arith, IsTrue}
+use Rattle.std.proofs.Common.{◌≡◌, ℕ, zero, suc, Bool, true, false, cond, not, nat_eq, List, [], ◌∷◌, ◌++◌, map, bytes_eq, Option, Some, None, slice_get, codes, inl, inr, refl, sym, ap, ◌∙◌, subst}
 use Rattle.std.specs.List.{Contains, AllByRecursion}
 use Rattle.std.specs.Cmp.Lexicographic.{pointwise, bytes_decides}
 use Rattle.std.proofs.lemmas.Slice.Eq.{bytes_eq-Decides}
-use Rattle.pepa_lexer.specs.Bytes.{is_capital, is_digit, begins}
+use Rattle.pepa_lexer.specs.Bytes.{is_digit, begins}
 use Rattle.pepa_lexer.specs.Signs.{sign_bytes}
-use Rattle.pepa_lexer.specs.Lexemes.{AreDigits}
 use Rattle.pepa_lexer.specs.TokenLists.{IsTokens}
-use Rattle.pepa_lexer.specs.TokenTexts.{IsDecimal, IsTextOf, AreInOrder}
+use Rattle.pepa_lexer.specs.TokenTexts.{IsTextOf, AreInOrder}
 use Rattle.pepa_lexer.specs.declared.kinds.Token.{Token}
 use Rattle.pepa_lexer.specs.declared.kinds.Kind.{Kind}
 use Rattle.pepa_lexer.specs.declared.kinds.Kind.TheVariants as kinds
@@ -21,8 +20,7 @@ use Rattle.pepa_resolver.specs.Parts.{bytes_of, name_at}
 use Rattle.pepa_resolver.specs.Faults.{IsRepeated}
 use Rattle.pepa_resolver.specs.NamesAnswers.{IsTau}
 use Rattle.pepa_resolver.specs.Numbers.{without, first_places}
-use Rattle.pepa_resolver.proofs.Findings.{no_element, contains_here, contains_there, contains_cases}
-use Rattle.pepa_resolver.proofs.NumberNames.{true_or_false}
+use Rattle.pepa_resolver.proofs.Findings.{contains_here, contains_there, contains_cases}
 use Rattle.pepa_resolver.proofs.Taus.{tau_by_bytes}
 
 -- ---- lists

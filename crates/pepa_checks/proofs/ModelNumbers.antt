@@ -1,18 +1,18 @@
 -- The action types and the sets of a file's model are numbered by their first places.
-use Rattle.std.proofs.Common.{◌≡◌, ℕ, zero, suc, Bool, true, false, if◌then◌else◌, nat_eq, ◌||◌, List, [], ◌∷◌, ◌++◌, map, flat_map, length, unwrap_or, Some, slice_get, get_or, ◌⊎◌, inl, inr, refl, sym, ap, ◌∙◌, subst, arith, codes, append-nil}
-use Rattle.std.specs.List.{Contains, range_with_len}
+use Rattle.std.proofs.Common.{◌≡◌, ℕ, zero, suc, Bool, true, false, if◌then◌else◌, nat_eq, ◌||◌, List, [], ◌∷◌, ◌++◌, map, flat_map, length, Some, get_or, inl, inr, refl, sym, ap, ◌∙◌, subst, arith, codes, append-nil}
+use Rattle.std.specs.List.{Contains}
 use Rattle.std.proofs.lemmas.List.{map-append}
 use Rattle.std.proofs.lemmas.List.Concat.{flat_map-append}
 use Rattle.std.proofs.lemmas.List.Elements.{Contains-append_left, Contains-append_right}
 use Rattle.std.proofs.lemmas.Option.{get_or_from_slice_get}
-use Rattle.pepa_model.specs.Expression.{Shape, LeafShape, ConstShape, Const, Definition, Sequentially, Compoundly}
+use Rattle.pepa_model.specs.Expression.{Shape, LeafShape, ConstShape, Const, Definition}
 use Rattle.pepa_model.specs.Leaves.{each_once, actions_in, actions_of_shape, actions_defined, action_numbers, sets_in, sets_defined, set_numbers}
 use Rattle.pepa_model.specs.PepaModel.{AreByFirstPlaces}
 use Rattle.pepa_reader.specs.Trees.{ProcessNode, ConstantAt, PrefixAt, ChoiceOf, CoopAt, HideOf, ProcessLineNode, FileNode}
 use Rattle.pepa_resolver.specs.Parts.{processes_of}
 use Rattle.pepa_resolver.specs.Named.{Named, NamedConstant, NamedPrefix, NamedChoice, NamedCoop, NamedHide, Naming, named, set_of}
 use Rattle.pepa_resolver.specs.Structure.{has_system}
-use Rattle.pepa_resolver.specs.Numbers.{words_in, first_places, place_in, actions_of, actions_named, named_bodies, named_system}
+use Rattle.pepa_resolver.specs.Numbers.{words_in, place_in, actions_of, actions_named, named_bodies, named_system}
 use Rattle.pepa_resolver.proofs.Findings.{contains_here, contains_there}
 use Rattle.pepa_resolver.proofs.NumberMeanings.{place_stands, first_there}
 use Rattle.pepa_checks.specs.Outline.{is_compound, expression_in, sets_written, sets_of, shape_in, definition_in, definitions_in}
@@ -200,17 +200,17 @@ module _ (compounds : List Bool) (bodies : List Named) (system : Named) (one_eac
   pub sets_by_place : AreByFirstPlaces (set_numbers definitions shape) (length sets)
   sets_by_place =
       let numbers : set_numbers definitions shape ≡ map (place_in sets) written =
-          ap (λ (l : List ℕ). l ++ sets_in shape) (sets_definitions compounds sets compounds bodies bodies_sound)
-          ∙ ap (λ (l : List ℕ). map (place_in sets) (flat_map sets_written bodies) ++ l) (sets_shape compounds sets system parts)
-          ∙ sym (map-append (place_in sets) (flat_map sets_written bodies) (sets_written system)) in
+      ap (λ (l : List ℕ). l ++ sets_in shape) (sets_definitions compounds sets compounds bodies bodies_sound)
+      ∙ ap (λ (l : List ℕ). map (place_in sets) (flat_map sets_written bodies) ++ l) (sets_shape compounds sets system parts)
+      ∙ sym (map-append (place_in sets) (flat_map sets_written bodies) (sets_written system)) in
       ap (each_once nat_eq) numbers ∙ once_grown (length sets) (map (place_in sets) written) (places_grow written)
 
   actions_outline : action_numbers sets definitions shape ≡ 0 ∷ flat_map actions_named (bodies ++ system ∷ [])
   actions_outline =
       ap (λ (l : List ℕ). 0 ∷ (l ++ actions_of_shape sets shape)) (actions_definitions compounds sets compounds bodies bodies_sound)
       ∙ ap (λ (l : List ℕ). 0 ∷ (flat_map actions_named bodies ++ l))
-        (actions_shape compounds sets system parts (λ set among. set_found set (Contains-append_right (flat_map sets_written bodies) (sets_written system) set among))
-        ∙ sym (append-nil (actions_named system)))
+      (actions_shape compounds sets system parts (λ set among. set_found set (Contains-append_right (flat_map sets_written bodies) (sets_written system) set among))
+      ∙ sym (append-nil (actions_named system)))
       ∙ ap (λ (l : List ℕ). 0 ∷ l) (sym (flat_map-append actions_named bodies (system ∷ [])))
 
   -- where the processes are those of a file, named so that an action type has the place of its name
@@ -221,15 +221,15 @@ module _ (compounds : List Bool) (bodies : List Named) (system : Named) (one_eac
       let tau : place_in actions (codes "tau") ≡ 0 = placed actions (codes "tau") 0 refl (omega arith) in
       let by_names : map naming.action words ≡ map (place_in actions) (map name words) = each words in
       let grown : Grows zero (0 ∷ map naming.action words) (length actions) =
-          subst (λ (l : List ℕ). Grows zero (0 ∷ l) (length actions)) (sym by_names)
-          (subst (λ (n : ℕ). Grows zero (n ∷ map (place_in actions) (map name words)) (length actions)) tau (places_grow (codes "tau" ∷ map name words))) in
+      subst (λ (l : List ℕ). Grows zero (0 ∷ l) (length actions)) (sym by_names)
+      (subst (λ (n : ℕ). Grows zero (n ∷ map (place_in actions) (map name words)) (length actions)) tau (places_grow (codes "tau" ∷ map name words))) in
       let numbers : bodies ++ system ∷ [] ≡ map (named naming) (processes_of file) =
-          ap (λ (l : List Named). l ++ system ∷ []) bodies_are ∙ ap (λ (p : Named). named_bodies naming file ++ p ∷ []) system_is
-          ∙ ap (λ (l : List Named). l ++ named_system naming file ∷ []) (sym (bodies_mapped file.processes))
-          ∙ sym (map-append (named naming) (map (λ (line : ProcessLineNode). line.body) file.processes) (file.system ∷ [])) in
+      ap (λ (l : List Named). l ++ system ∷ []) bodies_are ∙ ap (λ (p : Named). named_bodies naming file ++ p ∷ []) system_is
+      ∙ ap (λ (l : List Named). l ++ named_system naming file ∷ []) (sym (bodies_mapped file.processes))
+      ∙ sym (map-append (named naming) (map (λ (line : ProcessLineNode). line.body) file.processes) (file.system ∷ [])) in
       ap (each_once nat_eq) actions_outline
       ∙ once_grown (length actions) (0 ∷ flat_map actions_named (bodies ++ system ∷ []))
-        (subst (λ (l : List Named). Grows zero (0 ∷ flat_map actions_named l) (length actions)) (sym numbers) (tail grown))
+      (subst (λ (l : List Named). Grows zero (0 ∷ flat_map actions_named l) (length actions)) (sym numbers) (tail grown))
     where
       bodies_mapped : (lines : List ProcessLineNode) → map (named naming) (map (λ (line : ProcessLineNode). line.body) lines) ≡ map (λ (line : ProcessLineNode). named naming line.body) lines
       bodies_mapped [] = refl

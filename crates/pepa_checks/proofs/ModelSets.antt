@@ -1,18 +1,17 @@
 -- The sets of a file's model: their action types ascend, are the model's, and `tau` is none of them.
-use Rattle.std.proofs.Common.{◌≡◌, ℕ, zero, suc, ◌+◌, ◌<◌, List, [], ◌∷◌, ◌++◌, map, flat_map, length, Some, slice_get, codes, ◌⊎◌, inl, inr, refl, sym, ap, ◌∙◌, subst, arith}
+use Rattle.std.proofs.Common.{◌≡◌, ℕ, zero, suc, ◌+◌, ◌<◌, List, [], ◌∷◌, ◌++◌, map, flat_map, length, Some, slice_get, codes, inl, inr, refl, sym, ◌∙◌, subst, arith}
 use Rattle.std.specs.List.{Contains, AllByRecursion}
 use Rattle.std.specs.List.Sorted.{IsStrictlyIncreasing}
 use Rattle.std.proofs.lemmas.List.Elements.{Contains-append_left, Contains-append_right, Contains-append_cases}
-use Rattle.pepa_rates.specs.declared.rate.Rate.{Rate}
 use Rattle.pepa_lexer.specs.declared.kinds.Token.{Token}
 use Rattle.pepa_lexer.specs.TokenLists.{IsTokens}
 use Rattle.pepa_reader.specs.Trees.{ProcessNode, ConstantAt, PrefixAt, ChoiceOf, CoopAt, HideOf, ProcessLineNode, FileNode}
 use Rattle.pepa_resolver.specs.Parts.{name_at, set_words_in, processes_of}
 use Rattle.pepa_resolver.specs.Faults.{HasNone, TauAt}
 use Rattle.pepa_resolver.specs.NamesAnswers.{IsTau}
-use Rattle.pepa_resolver.specs.Named.{Named, Naming, named, set_of}
+use Rattle.pepa_resolver.specs.Named.{Naming, named, set_of}
 use Rattle.pepa_resolver.specs.Numbers.{words_in, first_places, place_in, actions_of, named_bodies, named_system}
-use Rattle.pepa_resolver.proofs.Findings.{no_element, contains_here, contains_there, contains_cases, contains_map_from, contains_map_to}
+use Rattle.pepa_resolver.proofs.Findings.{no_element, contains_here, contains_there, contains_cases, contains_map_from}
 use Rattle.pepa_resolver.proofs.Bodies.{contains_from_get}
 use Rattle.pepa_resolver.proofs.NumberNames.{place_within}
 use Rattle.pepa_resolver.proofs.NumberMeanings.{action_stands}
@@ -64,17 +63,17 @@ module _ (naming : Naming) where
       elim (Contains-append_cases (sets_written (named naming left)) (set_of (map naming.action words) ∷ sets_written (named naming right)) set h) [
         | inl k ↦ let found = set_of_words left set k in record { words = found.words; is_set = found.is_set; among = λ i m. Contains-append_left (set_words_in left) (words ++ set_words_in right) i (found.among i m) }
         | inr k ↦ elim (contains_cases (set_of (map naming.action words)) (sets_written (named naming right)) set k) [
-            | inl e ↦ record { words = words; is_set = sym e; among = λ i m. Contains-append_right (set_words_in left) (words ++ set_words_in right) i (Contains-append_left words (set_words_in right) i m) }
-            | inr m ↦ let found = set_of_words right set m in record { words = found.words; is_set = found.is_set; among = λ i n. Contains-append_right (set_words_in left) (words ++ set_words_in right) i (Contains-append_right words (set_words_in right) i (found.among i n)) }
-          ]
+          | inl e ↦ record { words = words; is_set = sym e; among = λ i m. Contains-append_right (set_words_in left) (words ++ set_words_in right) i (Contains-append_left words (set_words_in right) i m) }
+          | inr m ↦ let found = set_of_words right set m in record { words = found.words; is_set = found.is_set; among = λ i n. Contains-append_right (set_words_in left) (words ++ set_words_in right) i (Contains-append_right words (set_words_in right) i (found.among i n)) }
+        ]
       ]
   set_of_words (HideOf inner words) set h =
       elim (Contains-append_cases (sets_written (named naming inner)) (set_of (map naming.action words) ∷ []) set h) [
         | inl k ↦ let found = set_of_words inner set k in record { words = found.words; is_set = found.is_set; among = λ i m. Contains-append_left (set_words_in inner) words i (found.among i m) }
         | inr k ↦ elim (contains_cases (set_of (map naming.action words)) [] set k) [
-            | inl e ↦ record { words = words; is_set = sym e; among = λ i m. Contains-append_right (set_words_in inner) words i m }
-            | inr m ↦ absurd (no_element set m)
-          ]
+          | inl e ↦ record { words = words; is_set = sym e; among = λ i m. Contains-append_right (set_words_in inner) words i m }
+          | inr m ↦ absurd (no_element set m)
+        ]
       ]
 
   -- a set of a file
@@ -123,11 +122,11 @@ module _ (input : List ℕ) (tokens : List Token) (file : FileNode) (naming : Na
 
   number_positive : (process : ProcessNode) (i : ℕ) → Contains (processes_of file) process → Contains (set_words_in process) i → 0 < naming.action i
   number_positive process i inside among = positive (naming.action i) (λ e.
-    let stands = action_stands (name_at input tokens) file process i inside (words_of_sets process i among) in
-    let place : place_in names (name_at input tokens i) ≡ 0 = sym (acts i) ∙ e in
-    let first : slice_get names 0 ≡ Some (name_at input tokens i) = subst (λ (n : ℕ). slice_get names n ≡ Some (name_at input tokens i)) place stands in
-    let tau : codes "tau" ≡ name_at input tokens i = same_some (codes "tau") (name_at input tokens i) first in
-    apart i ((process, inside, among), tau_stands input tokens i are (sym tau)))
+      let stands = action_stands (name_at input tokens) file process i inside (words_of_sets process i among) in
+      let place : place_in names (name_at input tokens i) ≡ 0 = sym (acts i) ∙ e in
+      let first : slice_get names 0 ≡ Some (name_at input tokens i) = subst (λ (n : ℕ). slice_get names n ≡ Some (name_at input tokens i)) place stands in
+      let tau : codes "tau" ≡ name_at input tokens i = same_some (codes "tau") (name_at input tokens i) first in
+      apart i ((process, inside, among), tau_stands input tokens i are (sym tau)))
     where
       same_some : (x y : List ℕ) → Some x ≡ Some y → x ≡ y
       same_some x y e = cc
@@ -138,7 +137,7 @@ module _ (input : List ℕ) (tokens : List Token) (file : FileNode) (naming : Na
       let found = set_in_file naming file set (first_no_more set written (contains_from_get (first_places written) number set is)) in
       let words = found.is_set.words in
       let number_of : (a : ℕ) → Contains set a → (i : ℕ) × Contains words i × (naming.action i ≡ a) =
-          λ a among. contains_map_from naming.action words a (set_no_more (map naming.action words) a (subst (λ (s : List ℕ). Contains s a) found.is_set.is_set among)) in
+      λ a among. contains_map_from naming.action words a (set_no_more (map naming.action words) a (subst (λ (s : List ℕ). Contains s a) found.is_set.is_set among)) in
       record {
         ascends = subst IsStrictlyIncreasing (sym found.is_set.is_set) (increasing_from (set_of (map naming.action words)) (set_ascends (map naming.action words)));
         no_tau = all_from (λ a. 0 < a) set (λ a among. let n = number_of a among in subst (λ (x : ℕ). 0 < x) n.2 (number_positive found.process n.0 found.inside (found.is_set.among n.0 n.1)));

@@ -1,14 +1,14 @@
 -- The systems of a file's model: their components are leaves, their constants compound, and their numbers the model's.
-use Rattle.std.proofs.Common.{◌≡◌, ℕ, zero, suc, ◌<◌, Bool, true, false, if◌then◌else◌, ◌||◌, List, [], ◌∷◌, ◌++◌, flat_map, length, unwrap_or, Option, Some, slice_get, get_or, inl, inr, refl, sym, ap, ◌∙◌, subst, arith}
+use Rattle.std.proofs.Common.{◌≡◌, ℕ, zero, suc, ◌<◌, Bool, true, false, if◌then◌else◌, ◌||◌, List, [], ◌∷◌, ◌++◌, flat_map, length, unwrap_or, Option, Some, slice_get, get_or, refl, sym, ap, ◌∙◌, subst, arith}
 use Rattle.std.specs.List.{Contains}
 use Rattle.std.proofs.lemmas.List.Elements.{Contains-append_left, Contains-append_right}
 use Rattle.std.proofs.lemmas.Option.{slice_get_within, slice_get-get_or}
-use Rattle.pepa_model.specs.Expression.{Expression, Const, Shape, LeafShape, ConstShape, CoopShape, HideShape, Definition, Sequentially, Compoundly, IsCompound}
-use Rattle.pepa_model.specs.Leaves.{followers, components, leaves_of}
+use Rattle.pepa_model.specs.Expression.{Expression, Const, LeafShape, ConstShape, Definition, Compoundly}
+use Rattle.pepa_model.specs.Leaves.{followers, components}
 use Rattle.pepa_model.specs.PepaModel.{PepaModel, IsNamed, IsShapeOf, IsNoLeaf}
 use Rattle.pepa_model.specs.declared.term.Activity.{Activity}
 use Rattle.pepa_resolver.specs.Named.{Named, NamedConstant, NamedPrefix, NamedChoice, NamedCoop, NamedHide, constants_named}
-use Rattle.pepa_resolver.specs.Numbers.{first_places, place_in, actions_named, IsInRange}
+use Rattle.pepa_resolver.specs.Numbers.{place_in, actions_named, IsInRange}
 use Rattle.pepa_resolver.specs.Structure.{has_system, IsCompoundBy}
 use Rattle.pepa_resolver.specs.Structure as structure
 use Rattle.pepa_resolver.specs.Graphs.{AreBelow, IsTableOf}
@@ -17,7 +17,7 @@ use Rattle.pepa_resolver.proofs.NumberMeanings.{place_stands, first_there}
 use Rattle.pepa_checks.specs.Outline.{is_compound, expression_in, sets_written, sets_of, shape_in, definition_in, definitions_in, Outline, outline_with}
 use Rattle.pepa_checks.specs.Activities.{leaf_number}
 use Rattle.pepa_checks.specs.Sequences.{HasSequentialParts, AreBodies}
-use Rattle.pepa_checks.proofs.DefinitionsByNumber.{flag_of, flag_true, compound_at, defined_by}
+use Rattle.pepa_checks.proofs.DefinitionsByNumber.{flag_true, compound_at, defined_by}
 use Rattle.pepa_checks.proofs.LeafNumbers.{leaf_stands}
 use Rattle.pepa_checks.proofs.LeafClosure.{IsNamedShape, IsNamedDefinition, component_leaf, defined_leaf}
 

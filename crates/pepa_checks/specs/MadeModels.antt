@@ -1,5 +1,5 @@
 -- What making a file's model needs, and what it makes.
-use Rattle.std.specs.Prelude.{◌≡◌, ◌≤◌, ℕ, List, length, map}
+use Rattle.std.specs.Prelude.{◌≡◌, ◌≤◌, length, map}
 use Rattle.indexmap.specs.IndexMap.{keys}
 use Rattle.pepa_model.specs.Expression.{expression_of, definition_of, shape_of}
 use Rattle.pepa_model.specs.PepaModel.{PepaModel, IsModel}

@@ -53,8 +53,20 @@ pub(crate) fn count(alloc: Global, file: &StructuredFile) -> Result<Counted, Lim
     let leaves = leaves_of(alloc, compounds, bodies, system)?;
     let order = file.sequential_order.as_slice();
     let constants = leaves.constants.as_slice();
-    let performed = performed(alloc, compounds, order, constants, leaves.summands.as_slice())?;
-    if has_many_leaves(alloc, compounds, file.compound_order.as_slice(), bodies, system)? {
+    let performed = performed(
+        alloc,
+        compounds,
+        order,
+        constants,
+        leaves.summands.as_slice(),
+    )?;
+    if has_many_leaves(
+        alloc,
+        compounds,
+        file.compound_order.as_slice(),
+        bodies,
+        system,
+    )? {
         return Err(LimitEnd::TooMany);
     }
     Ok(Counted {

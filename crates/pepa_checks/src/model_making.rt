@@ -23,10 +23,7 @@ fn activities_of(alloc: Global, list: &[Performed]) -> Result<ActivityList, Allo
 }
 
 /// The activities of each leaf.
-fn activity_lists(
-    alloc: Global,
-    lists: &[Items<Performed>],
-) -> Result<ActivityLists, AllocError>
+fn activity_lists(alloc: Global, lists: &[Items<Performed>]) -> Result<ActivityLists, AllocError>
     ensures { IfOk result (λ made. made ≡ map (map (λ performed. performed.activity)) lists.now) }
 {
     let mut made = Items::new(alloc);

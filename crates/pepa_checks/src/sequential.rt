@@ -10,10 +10,7 @@ use pepa_resolver::NamedProcess;
 use std::alloc::{AllocError, Global};
 
 /// A sequential process as an expression.
-pub(crate) fn sequential_of(
-    alloc: Global,
-    process: &NamedProcess,
-) -> Result<Sequential, AllocError>
+pub(crate) fn sequential_of(alloc: Global, process: &NamedProcess) -> Result<Sequential, AllocError>
     requires { has_system (named_of process.now) ≡ false }
     ensures { IfOk result (λ e. expression_of e ≡ expression_in (named_of process.now)) }
 {

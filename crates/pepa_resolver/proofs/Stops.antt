@@ -1,6 +1,5 @@
 -- What is told of a file whose structure is refused.
 use Rattle.std.proofs.Common.{◌≡◌, ℕ, List, map, refl, subst, Some, slice_get, Err}
-use Rattle.pepa_rates.specs.declared.rate.Rate.{Rate}
 use Rattle.pepa_lexer.specs.declared.kinds.Token.{Token}
 use Rattle.pepa_reader.specs.Trees.{FileNode}
 use Rattle.pepa_resolver.specs.declared.cause.CheckCause.TheVariants.{ModelCycle, Unguarded}
@@ -16,7 +15,7 @@ use Rattle.pepa_resolver.specs.Named.{Named}
 use Rattle.pepa_resolver.specs.NamedTypes.{named_of}
 use Rattle.pepa_resolver.specs.Numbers.{IsNamedFile}
 use Rattle.pepa_resolver.specs.StructureAnswers.{IsStructureEnd}
-use Rattle.pepa_resolver.specs.StructuredFiles.{IsNumbered, IsLineAt, IsStop, ChecksStructure}
+use Rattle.pepa_resolver.specs.StructuredFiles.{IsNumbered, IsLineAt, ChecksStructure}
 
 -- the same of equal bodies
 pub same_end : (bodies others : List NamedProcess) (system : Named) (end : StructureEnd) → bodies ≡ others → IsStructureEnd (map named_of bodies) system end → IsStructureEnd (map named_of others) system end

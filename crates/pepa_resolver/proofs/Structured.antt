@@ -1,5 +1,5 @@
 -- From the numbers and the structure of a file to what is told of it.
-use Rattle.std.proofs.Common.{◌≡◌, ℕ, ◌+◌, ◌<◌, ◌≤◌, suc, zero, Bool, true, false, List, [], ◌∷◌, ◌++◌, length, map, refl, sym, ap, subst, ◌∙◌, get_or, Some, None, option_map, slice_get, arith, inl, inr, ◌⊎◌}
+use Rattle.std.proofs.Common.{◌≡◌, ℕ, ◌<◌, ◌≤◌, suc, zero, List, [], ◌∷◌, ◌++◌, length, map, refl, sym, ap, subst, ◌∙◌, get_or, Some, option_map, slice_get, arith, inl, inr}
 use Rattle.std.specs.List.{Contains, AllByRecursion}
 use Rattle.std.proofs.lemmas.Option.{slice_get_within, slice_get-get_or, slice_get-map, slice_get_read}
 use Rattle.std.proofs.lemmas.List.Elements.{Contains-append_cases}
@@ -13,10 +13,10 @@ use Rattle.pepa_reader.specs.Grammar.{file_spelled}
 use Rattle.pepa_reader.specs.FileAnswers.{IsFileTree}
 use Rattle.pepa_reader.specs.Trees.{FileNode, ProcessNode, ProcessLineNode, ConstantAt, PrefixAt, ChoiceOf, CoopAt, HideOf, file_node_of, file_tree, process_line_of}
 use Rattle.pepa_resolver.specs.declared.naming.NamedFile.{NamedFile}
-use Rattle.pepa_resolver.specs.Parts.{name_at, process_ats, processes_of}
+use Rattle.pepa_resolver.specs.Parts.{name_at, process_ats}
 use Rattle.pepa_resolver.specs.Faults.{IsLeast}
 use Rattle.pepa_resolver.specs.NamesAnswers.{FineSets}
-use Rattle.pepa_resolver.specs.Named.{Named, NamedConstant, NamedPrefix, NamedChoice, NamedCoop, NamedHide, Naming, named, first_at, sequential_parts}
+use Rattle.pepa_resolver.specs.Named.{Named, Naming, named, first_at, sequential_parts}
 use Rattle.pepa_resolver.specs.NamedTypes.{named_of, HasConstantsBelow}
 use Rattle.pepa_resolver.specs.Numbers.{IsNamedFile, naming_of, named_bodies, named_system}
 use Rattle.pepa_resolver.specs.Structure.{NotSequentialAt, CompoundEdge, UnguardedEdge, IsFirstCycle}

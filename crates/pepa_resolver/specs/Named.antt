@@ -1,6 +1,6 @@
 -- Processes with numbers in place of names. The places of their constants and activities are kept, for the faults that are
 -- told there.
-use Rattle.std.specs.Prelude.{◌≡◌, ℕ, ◌+◌, nat_lt, nat_eq, if◌then◌else◌, List, [], ◌∷◌, ◌++◌, map}
+use Rattle.std.specs.Prelude.{ℕ, ◌+◌, nat_lt, nat_eq, if◌then◌else◌, List, [], ◌∷◌, ◌++◌, map}
 use Rattle.pepa_rates.specs.declared.rate.Rate.{Rate}
 use Rattle.pepa_reader.specs.Trees.{RateNode, ProcessNode, ConstantAt, PrefixAt, ChoiceOf, CoopAt, HideOf}
 

@@ -1,7 +1,7 @@
 -- Numbers in place of a file's names. A constant's number is the place of its line among the process lines, from 0. `tau` is
 -- action 0, and the other action types are numbered from 1 by their first place in the text behind the `=` of the process
 -- lines, in order, and then in the system. `name` gives the name at an index.
-use Rattle.std.specs.Prelude.{◌≡◌, ℕ, ◌+◌, ◌<◌, not, List, [], ◌∷◌, ◌++◌, map, filter, flat_map, length, position, unwrap_or, codes, bytes_eq}
+use Rattle.std.specs.Prelude.{◌≡◌, ℕ, ◌+◌, not, List, [], ◌∷◌, ◌++◌, map, filter, flat_map, length, position, unwrap_or, codes, bytes_eq}
 use Rattle.std.specs.List.{Contains}
 use Rattle.indexmap.specs.IndexMap.{keys}
 use Rattle.pepa_rates.specs.declared.rate.Rate.{Rate}

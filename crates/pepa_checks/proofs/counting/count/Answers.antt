@@ -1,14 +1,12 @@
-use Rattle.std.proofs.Common.{◌≡◌, length, arith, ap, ℕ, ◌≤◌, List, Bool, ◌++◌, [], ◌∷◌}
+use Rattle.std.proofs.Common.{length, arith, ap, ◌≤◌}
 use Rattle.std.proofs.lemmas.Result.{err_from_is_err_and}
 use Rattle.std.proofs.lemmas.List.{length-map}
-use Rattle.std.proofs.lemmas.List.Elements.{Contains-append_right, Contains-push}
+use Rattle.std.proofs.lemmas.List.Elements.{Contains-push}
 use Rattle.indexmap.specs.IndexMap.{keys}
-use Rattle.pepa_resolver.specs.Named.{Named}
 use Rattle.pepa_resolver.specs.NamedTypes.{named_of, bodies_of}
 use Rattle.pepa_checks.specs.Outline.{outline_of, sets_of}
 use Rattle.pepa_checks.specs.Activities.{written_leaves}
 use Rattle.pepa_checks.specs.LeavesAnswers.{AreLeaves}
-use Rattle.pepa_checks.specs.ActivityLists.{LeafChoices}
 use Rattle.pepa_checks.proofs.Countings.{choices, performed_end, many_system, counts, few_keys}
 use Rattle.pepa_checks.proofs.counting.count.Goals as goal
 

@@ -1,4 +1,4 @@
-use Rattle.std.proofs.Common.{◌≡◌, List, length, map, take, refl, sym, ap, ◌∙◌}
+use Rattle.std.proofs.Common.{List, length, map, take, refl, sym, ap, ◌∙◌}
 use Rattle.std.proofs.lemmas.List.{map_push}
 use Rattle.std.proofs.lemmas.Option.{slice_get_read}
 use Rattle.pepa_model.specs.declared.term.Activity.{Activity}

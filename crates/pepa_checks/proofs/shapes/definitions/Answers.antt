@@ -1,12 +1,10 @@
-use Rattle.std.proofs.Common.{◌≡◌, ◌<◌, ◌∙◌, [], ◌∷◌, ◌++◌, refl, length, sym, ap, map, Some, false, slice_get, get_or, arith}
-use Rattle.std.proofs.lemmas.List.{length-map, map_push, take_all}
+use Rattle.std.proofs.Common.{◌≡◌, ◌<◌, ◌∙◌, [], ◌∷◌, ◌++◌, refl, length, ap, map, Some, false, get_or, arith}
+use Rattle.std.proofs.lemmas.List.{length-map, map_push}
 use Rattle.std.proofs.lemmas.Option.{slice_get-get_or, slice_get_read}
 use Rattle.indexmap.specs.IndexMap.{keys}
 use Rattle.pepa_model.specs.Expression.{Definition, definition_of}
-use Rattle.pepa_resolver.specs.NamedTypes.{named_of, bodies_of}
+use Rattle.pepa_resolver.specs.NamedTypes.{named_of}
 use Rattle.pepa_resolver.proofs.Bodies.{body_at}
-use Rattle.pepa_resolver.proofs.EdgeLists.{take_body}
-use Rattle.pepa_checks.specs.Outline.{definition_in, definitions_in}
 use Rattle.pepa_checks.proofs.DefinitionLists.{definitions_more}
 use Rattle.pepa_checks.proofs.shapes.definitions.Goals as goal
 
@@ -36,4 +34,3 @@ loop-number-preserved c =
     c.loop-number.invariant in
     ap (map definition_of) c.in_ok-push.ensures.ok ∙ map_push definition_of c.loop-number.made c.in_ok-body.body
     ∙ ap (λ (d : Definition). map definition_of c.loop-number.made ++ d ∷ []) c.in_ok-body.ensures ∙ more
-
