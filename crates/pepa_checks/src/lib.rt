@@ -21,3 +21,6 @@ mod system_size;
 
 pub use file_check::check;
 pub use pepa_resolver::{CheckCause, CheckEnd};
+
+#[cfg(test)]
+mod tests;
