@@ -146,19 +146,27 @@ fn system_text(alloc: Global, model: &Model) -> Result<String, AllocError> {
     Ok(out)
 }
 
+/// A name, of which each byte is a character.
+fn write_name(out: &mut String, name: &[u8]) -> Result<(), AllocError> {
+    match str::from_utf8(name) {
+        Ok(name) => write!(out, "{name}"),
+        Err(_) => write!(out, "?"),
+    }
+}
+
 /// The names of the action types, and then those of the constants.
-fn names_text(alloc: Global, model: &Model) -> Result<String, Fail> {
+fn names_text(alloc: Global, model: &Model) -> Result<String, AllocError> {
     let mut out = String::new(alloc);
     let actions = &model.actions;
     for name in actions.keys() {
-        let name = str::from_utf8(name.as_bytes())?;
-        write!(out, "{name} ")?;
+        write_name(&mut out, name.as_bytes())?;
+        write!(out, " ")?;
     }
     write!(out, ":")?;
     let constants = &model.constants;
     for name in constants.keys() {
-        let name = str::from_utf8(name.as_bytes())?;
-        write!(out, " {name}")?;
+        write!(out, " ")?;
+        write_name(&mut out, name.as_bytes())?;
     }
     Ok(out)
 }
@@ -175,26 +183,36 @@ struct Row {
     system: &'static str,
 }
 
+fn is_text(
+    rt: &impl Abort,
+    found: Result<String, AllocError>,
+    want: &str,
+    text: &str,
+) -> Result<(), Fail> {
+    let found = found?;
+    assert_eq!(rt; found.as_str(), want, "{text}");
+    Ok(())
+}
+
+fn has_parts(rt: &impl Abort, alloc: Global, model: &Model, row: &Row) -> Result<(), Fail> {
+    let text = row.text;
+    is_text(rt, names_text(alloc, model), row.names, text)?;
+    is_text(rt, bodies_text(alloc, model), row.bodies, text)?;
+    is_text(rt, leaves_text(alloc, model), row.leaves, text)?;
+    is_text(rt, activities_text(alloc, model), row.activities, text)?;
+    is_text(rt, sets_text(alloc, model), row.sets, text)?;
+    is_text(rt, system_text(alloc, model), row.system, text)
+}
+
 fn has_model(rt: &impl Abort, alloc: Global, row: &Row) -> Result<(), Fail> {
     let text = row.text;
-    let model = match model_of(rt, alloc, text.as_bytes()) {
-        Ok(model) => model,
+    match model_of(rt, alloc, text.as_bytes()) {
+        Ok(model) => has_parts(rt, alloc, &model, row),
         Err(end) => {
             assert_eq!(rt; Some(end), None, "{text}");
-            return Ok(());
+            Ok(())
         }
-    };
-    assert_eq!(rt; names_text(alloc, &model)?.as_str(), row.names, "{text}");
-    assert_eq!(rt; bodies_text(alloc, &model)?.as_str(), row.bodies, "{text}");
-    assert_eq!(rt; leaves_text(alloc, &model)?.as_str(), row.leaves, "{text}");
-    assert_eq!(rt;
-        activities_text(alloc, &model)?.as_str(),
-        row.activities,
-        "{text}"
-    );
-    assert_eq!(rt; sets_text(alloc, &model)?.as_str(), row.sets, "{text}");
-    assert_eq!(rt; system_text(alloc, &model)?.as_str(), row.system, "{text}");
-    Ok(())
+    }
 }
 
 fn have_models(rt: &impl Abort, alloc: Global, rows: &[Row]) -> Result<(), Fail> {
@@ -300,6 +318,16 @@ const EQUAL: &[Row] = &[
         activities: " 1:3/2>1 3:1>1; 2:3/2>0; 4:1T>1; 4:2T>4; 2:3>0; 4:1>0;",
         sets: " {}",
         system: "(((4:1T.2:3/2.c0{0}4:1T.2:3/2.c0){0}4:2T.2:3.c0){0}4:1.c0)",
+    },
+    // An active rate and a passive one with the same number.
+    Row {
+        text: "P = (a,1).(b,1).P + (a,1).(b,infty).P; P",
+        names: "tau a b : P",
+        bodies: " (1:1.2:1.c0+1:1.2:1T.c0)",
+        leaves: " c0 2:1.c0 2:1T.c0",
+        activities: " 1:1>1 1:1>2; 2:1>0; 2:1T>0;",
+        sets: "",
+        system: "c0",
     },
     // Choices with their operands swapped are two.
     Row {
