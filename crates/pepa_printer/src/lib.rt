@@ -24,3 +24,6 @@ pub use components::{push_action, push_constant, push_expression};
 pub use lines::print_model;
 pub use rates::push_rate;
 pub use text::{push_bracket, push_text};
+
+#[cfg(test)]
+mod tests;
