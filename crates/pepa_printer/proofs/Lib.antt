@@ -1,0 +1,2 @@
+pub mod KnownBodies
+pub mod LineLists

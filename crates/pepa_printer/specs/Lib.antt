@@ -1,0 +1,3 @@
+pub mod ComponentText
+pub mod ModelText
+pub mod KnownBodies
