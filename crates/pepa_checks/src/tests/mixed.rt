@@ -114,7 +114,7 @@ fn lines_and_columns(rt: HostRuntime) {
 /// A constant with a mixed activity, a constant without, and compound constants of 2, 4 and so on up to 256 leaves, `C7`.
 fn push_front(out: &mut String) -> Result<(), AllocError> {
     write!(out, "M=(a,1).M+(a,T).M;P=(a,1).P;C0=P||P;")?;
-    for number in 1..8 {
+    for number in 1..8_usize {
         let below = number - 1;
         write!(out, "C{number}=C{below}||C{below};")?;
     }
