@@ -13,7 +13,8 @@ wanted_line() {
     printf '%s\n' "$2" >"$work/$1"
 }
 wanted_line usage 'usage'
-wanted_line unsupported 'model 1:1 unsupported'
+wanted_line empty 'model 1:1 expected'
+wanted_line spaces 'model 1:1048577 expected'
 wanted_line too_long 'model too long'
 wanted_line read_fault 'read fault'
 wanted_line write_fault 'write fault'
@@ -34,6 +35,8 @@ refused 'an unknown word' 2 usage "$model" step
 refused 'a word in capitals' 2 usage "$model" STEPS
 refused 'an empty word' 2 usage "$model" ''
 refused 'an option' 2 usage "$model" --help
+refused 'both commands' 2 usage "$model" check steps
+refused 'check and a file' 2 usage "$model" check "$model"
 
 # 2^20 bytes are read, and one more is not.
 limit=1048576
@@ -44,14 +47,30 @@ cp "$model" "$work/long_model"
 head -c "$((limit - $(wc -c <"$model")))" "$work/at_limit" >>"$work/long_model"
 { cat "$work/long_model" && printf ' '; } >"$work/longer_model"
 
-refused 'the empty text' 3 unsupported /dev/null steps
-refused '2^20 spaces' 3 unsupported "$work/at_limit" steps
-refused '2^20 + 1 spaces' 3 too_long "$work/above_limit" steps
-refused 'a model of 2^20 + 1 bytes' 3 too_long "$work/longer_model" steps
+for command in steps check; do
+    refused "$command: the empty text" 3 empty /dev/null "$command"
+    refused "$command: 2^20 spaces" 3 spaces "$work/at_limit" "$command"
+    refused "$command: 2^20 + 1 spaces" 3 too_long "$work/above_limit" "$command"
+    refused "$command: a model of 2^20 + 1 bytes" 3 too_long "$work/longer_model" "$command"
+done
 
 bin/pepaprobe steps <"$work/long_model" >"$work/out" 2>"$work/err"
 ended=$?
 told 'a model of 2^20 bytes' 0 "${model%.pepa}.steps" "$work/nothing"
+
+# A long chain of constants: each of 500 stands for the one before it, with the empty set hidden 680 times.
+hidden=$(printf '/{}%.0s' {1..680})
+{
+    printf 'P = (a, 1).P; A0 = P%s;\n' "$hidden"
+    for number in {1..499}; do
+        printf 'A%d = A%d%s;\n' "$number" "$((number - 1))" "$hidden"
+    done
+    printf 'A499 || A499\n'
+} >"$work/chain"
+printf 'ok constants 501 actions 1 probes 0 leaves 2\n' >"$work/counts"
+bin/pepaprobe check <"$work/chain" >"$work/out" 2>"$work/err"
+ended=$?
+told 'a long chain of constants' 0 "$work/counts" "$work/nothing"
 
 # The text comes through a pipe, a few bytes at a time.
 while IFS= read -r -n 1 byte || [ -n "$byte" ]; do
@@ -62,6 +81,7 @@ told 'a model in pieces' 0 "${model%.pepa}.steps" "$work/nothing"
 
 # A folder opens, but it can't be read.
 refused 'a folder as standard input' 4 read_fault . steps
+refused 'check: a folder as standard input' 4 read_fault . check
 bin/pepaprobe steps <&- >"$work/out" 2>"$work/err"
 ended=$?
 told 'standard input closed' 4 "$work/nothing" "$work/read_fault"

@@ -1,10 +1,13 @@
 -- How a call ends, from how its input was read and its answer delivered.
 use Rattle.std.proofs.Common.{◌≡◌, ℕ, ◌≤◌, ◌^◌, List, [], length, Option, None, Some, Ok, inl, inr, ap, arith}
 use Rattle.sim_outside.specs.ReadAll.{ReadsToEnd}
-use Rattle.sim_command.specs.declared.answer.Answered.{Answered}
-use Rattle.sim_command.specs.declared.words.Command.TheVariants.{Steps}
+use Rattle.pepa_model.specs.PepaModel.{PepaModel}
+use Rattle.sim_command.specs.declared.answered.Answered.{Answered}
+use Rattle.sim_command.specs.declared.words.Command.{Command}
+use Rattle.sim_command.specs.declared.words.Command.TheVariants.{Steps, Check}
 use Rattle.sim_command.specs.Words.{IsCommand}
-use Rattle.sim_command.specs.Answer.{IsAnswer, IsModelAnswer}
+use Rattle.sim_command.specs.ModelAnswers.{IsModelAnswer}
+use Rattle.sim_command.specs.Answer.{IsAnswer}
 use Rattle.sim_command.specs.TopCall.{Seen, AreAllLeft, WroteFront, IsAnswered, IsInputEnding, IsEnding}
 
 pub all_left : (before after : Option (List ℕ)) (limit : ℕ) (bytes : List ℕ) → ReadsToEnd before after limit (Ok bytes) → AreAllLeft before after bytes
@@ -15,23 +18,26 @@ all_left (Some left) after limit bytes h = (h.0, h.2)
 no_front : (out : Seen) (piece : List ℕ) → piece ≡ [] → WroteFront out piece → ⊥
 no_front out piece none wrote = omega (arith, ap length none, wrote.short)
 
--- an answer whose bytes could not all be written has status 0
-written_is_listed : (input : List ℕ) (answer : Answered) (out : Seen) → IsAnswer input answer → WroteFront out answer.out → answer.status ≡ 0
-written_is_listed input answer out (inl unread) wrote = absurd (no_front out answer.out unread.refused.out_is wrote)
-written_is_listed input answer out (inr read) wrote = of_model read.answer
-  where
-    of_model : IsModelAnswer read.model answer → answer.status ≡ 0
-    of_model (inl stopped) = absurd (no_front out answer.out stopped.refused.out_is wrote)
-    of_model (inr listed) = listed.status_is
+-- an answer for a model whose bytes could not all be written has status 0
+written_of_model : (command : Command) (m : PepaModel) (answer : Answered) (out : Seen) → IsModelAnswer command m answer → WroteFront out answer.out → answer.status ≡ 0
+written_of_model Steps m answer out (inl unsupported) wrote = absurd (no_front out answer.out unsupported.refused.out_is wrote)
+written_of_model Steps m answer out (inr (inl stopped)) wrote = absurd (no_front out answer.out stopped.refused.out_is wrote)
+written_of_model Steps m answer out (inr (inr listed)) wrote = listed.status_is
+written_of_model Check m answer out counted wrote = counted.status_is
 
-pub ending : (words : List (List ℕ)) (source out : Seen) (input line : List ℕ) (status : ℕ) → IsCommand words Steps → length input ≤ 2 ^ 20
-    → AreAllLeft source.before source.after input → IsInputEnding input out line status → IsEnding words source out line status
-ending words source out input line status command few read (inl memory) =
-    inr (inl (record { ended = memory; source_is = inr (record { command = command; input = input; few = few; read = read }) }))
-ending words source out input line status command few read (inr (answer, is, inl delivered)) =
-    let answered : IsAnswered words source answer = record { command = command; input = input; few = few; read = read; is = is } in
+-- so has any answer
+written_is_listed : (command : Command) (input : List ℕ) (answer : Answered) (out : Seen) → IsAnswer command input answer → WroteFront out answer.out → answer.status ≡ 0
+written_is_listed command input answer out (inl unread) wrote = absurd (no_front out answer.out unread.refused.out_is wrote)
+written_is_listed command input answer out (inr read) wrote = written_of_model command read.model answer out read.answer wrote
+
+pub ending : (words : List (List ℕ)) (command : Command) (source out : Seen) (input line : List ℕ) (status : ℕ) → IsCommand words command → length input ≤ 2 ^ 20
+    → AreAllLeft source.before source.after input → IsInputEnding command input out line status → IsEnding words source out line status
+ending words command source out input line status is_command few read (inl memory) =
+    inr (inl (record { ended = memory; source_is = inr (record { command = (command, is_command); input = input; few = few; read = read }) }))
+ending words command source out input line status is_command few read (inr (answer, is, inl delivered)) =
+    let answered : IsAnswered words source answer = record { command = command; is_command = is_command; input = input; few = few; read = read; is = is } in
     inr (inr (inr (inr (inl (record { answer = answer; answered = answered; status_is = delivered.0; wrote = delivered.1; line_is = delivered.2 })))))
-ending words source out input line status command few read (inr (answer, is, inr failed)) =
-    let answered : IsAnswered words source answer = record { command = command; input = input; few = few; read = read; is = is } in
-    let listed = written_is_listed input answer out is failed.1 in
+ending words command source out input line status is_command few read (inr (answer, is, inr failed)) =
+    let answered : IsAnswered words source answer = record { command = command; is_command = is_command; input = input; few = few; read = read; is = is } in
+    let listed = written_is_listed command input answer out is failed.1 in
     inr (inr (inr (inr (inr (record { answer = answer; answered = answered; listed = listed; status_is = failed.0; wrote = failed.1; line_is = failed.2 })))))

@@ -1,21 +1,27 @@
--- An input has one model and one answer.
-use Rattle.std.proofs.Common.{◌≡◌, ℕ, List, inl, inr, refl, sym, ap, subst, ◌∙◌}
+-- A command has one answer to an input.
+use Rattle.std.proofs.Common.{◌≡◌, ℕ, List, ◌⊎◌, inl, inr, refl, sym, ap, subst, ◌∙◌, length, ◌-◌}
+use Rattle.pepa_lexer.specs.declared.kinds.Place.{Place}
+use Rattle.pepa_model.specs.Expanded.{leaves_in}
 use Rattle.pepa_model.specs.PepaModel.{PepaModel}
 use Rattle.pepa_model.proofs.OneList.{one_list, one_verdict, verdict_or_none}
-use Rattle.sim_command.specs.declared.answer.Answered.{Answered}
+use Rattle.pepa_checks.proofs.OneModel.{one_model}
+use Rattle.pepa_checks.proofs.OneTree.{one_expansion}
+use Rattle.sim_command.specs.declared.answered.Answered.{Answered}
+use Rattle.sim_command.specs.declared.words.Command.{Command}
+use Rattle.sim_command.specs.declared.words.Command.TheVariants.{Steps, Check}
+use Rattle.sim_command.specs.declared.fault.FaultName.{FaultName}
 use Rattle.sim_command.specs.declared.fault.Fault.{Fault}
 use Rattle.sim_command.specs.declared.fault.Fault.TheVariants as faults
 use Rattle.sim_command.specs.declared.transitions.StepFault.{StepFault}
 use Rattle.sim_command.specs.declared.transitions.StepFault.TheVariants as named
 use Rattle.sim_command.specs.StepsAnswers.{named_fault}
-use Rattle.sim_command.specs.Numbering.{model_of}
 use Rattle.sim_command.specs.TransitionsText.{transitions_text}
-use Rattle.sim_command.specs.Answer.{Reads, IsRefusal, IsStopped, IsListed, IsModelAnswer, IsAnswer, first_state, stop_of, unsupported}
-use Rattle.sim_command.proofs.SmallReadingLemmas.{same_text}
-
-pub same_model : (input : List ℕ) (x y : PepaModel) → Reads input x → Reads input y → x ≡ y
-same_model input x y (text, is, (named, x_is)) (other, is_too, (named_too, y_is)) =
-    x_is ∙ ap model_of (same_text input text other is is_too) ∙ sym y_is
+use Rattle.sim_command.specs.Support.{IsSupported}
+use Rattle.sim_command.specs.Systems.{HasLeaves}
+use Rattle.sim_command.specs.CheckText.{counts_text, IsCheckText}
+use Rattle.sim_command.specs.ModelAnswers.{IsRefusal, IsStopped, IsListed, IsStepsAnswer, IsModelAnswer, first_state, stop_of, unsupported}
+use Rattle.sim_command.specs.Answer.{IsUnread, IsAnswer}
+use Rattle.sim_command.proofs.OneOutcome.{one_model_fault, model_or_fault}
 
 abbrev answer : ℕ → List ℕ → List ℕ → Answered
 answer status out line = record { status = status; out = out; line = line }
@@ -49,16 +55,43 @@ module _ (m : PepaModel) (x y : Answered) where
       let same = one_list m.bodies (first_state m.system) h.transitions k.transitions h.derived k.derived in
       same_parts x y (h.status_is ∙ sym k.status_is) (h.out_is ∙ ap (transitions_text m) same ∙ sym k.out_is) (h.line_is ∙ sym k.line_is)
 
-  same_model_answer : IsModelAnswer m x → IsModelAnswer m y → x ≡ y
-  same_model_answer (inl h) (inl k) = both_stopped h k
-  same_model_answer (inl h) (inr k) = absurd (verdict_or_none m.bodies (first_state m.system) (named_fault h.fault) h.verdict k.fine)
-  same_model_answer (inr h) (inl k) = absurd (verdict_or_none m.bodies (first_state m.system) (named_fault k.fault) k.verdict h.fine)
-  same_model_answer (inr h) (inr k) = both_listed h k
+  one_stop : IsStopped m x ⊎ IsListed m x → IsStopped m y ⊎ IsListed m y → x ≡ y
+  one_stop (inl h) (inl k) = both_stopped h k
+  one_stop (inl h) (inr k) = absurd (verdict_or_none m.bodies (first_state m.system) (named_fault h.fault) h.verdict k.fine)
+  one_stop (inr h) (inl k) = absurd (verdict_or_none m.bodies (first_state m.system) (named_fault k.fault) k.verdict h.fine)
+  one_stop (inr h) (inr k) = both_listed h k
 
-pub same_answer : (input : List ℕ) (x y : Answered) → IsAnswer input x → IsAnswer input y → x ≡ y
-same_answer input x y (inl h) (inl k) = same_refusal x y 3 unsupported h.refused k.refused
-same_answer input x y (inl h) (inr k) = absurd (h.none k.model k.reads)
-same_answer input x y (inr h) (inl k) = absurd (k.none h.model h.reads)
-same_answer input x y (inr h) (inr k) =
-    let same = same_model input h.model k.model h.reads k.reads in
-    same_model_answer k.model x y (subst (λ (m : PepaModel). IsModelAnswer m x) same h.answer) k.answer
+  supported_one : (a : Answered) → IsStopped m a ⊎ IsListed m a → IsSupported m
+  supported_one a (inl h) = h.supported
+  supported_one a (inr h) = h.supported
+
+  one_steps_answer : IsStepsAnswer m x → IsStepsAnswer m y → x ≡ y
+  one_steps_answer (inl h) (inl k) = same_refusal x y 3 unsupported h.refused k.refused
+  one_steps_answer (inl h) (inr k) = absurd (h.not_supported (supported_one y k))
+  one_steps_answer (inr h) (inl k) = absurd (k.not_supported (supported_one x h))
+  one_steps_answer (inr h) (inr k) = one_stop h k
+
+one_count : (m : PepaModel) (i j : ℕ) → HasLeaves m i → HasLeaves m j → i ≡ j
+one_count m i j h k = h.count_is ∙ ap leaves_in (one_expansion m.bodies m.system h.tree k.tree h.expands k.expands) ∙ sym k.count_is
+
+one_check_text : (m : PepaModel) (x y : List ℕ) → IsCheckText m x → IsCheckText m y → x ≡ y
+one_check_text m x y h k = h.text_is ∙ ap (counts_text (length m.constants) (length m.actions - 1)) (one_count m h.leaves k.leaves h.has_leaves k.has_leaves) ∙ sym k.text_is
+
+one_model_answer : (command : Command) (m : PepaModel) (x y : Answered) → IsModelAnswer command m x → IsModelAnswer command m y → x ≡ y
+one_model_answer Steps m x y h k = one_steps_answer m x y h k
+one_model_answer Check m x y h k =
+    same_parts x y (h.status_is ∙ sym k.status_is) (one_check_text m x.out y.out h.out_is k.out_is) (h.line_is ∙ sym k.line_is)
+
+both_unread : (input : List ℕ) (x y : Answered) → IsUnread input x → IsUnread input y → x ≡ y
+both_unread input x y h k =
+    let (place, name) = one_model_fault input h.place k.place h.name k.name h.is_fault k.is_fault in
+    let moved : IsRefusal x 3 (faults.Model k.place h.name) = subst (λ (p : Place). IsRefusal x 3 (faults.Model p h.name)) place h.refused in
+    same_refusal x y 3 (faults.Model k.place k.name) (subst (λ (n : FaultName). IsRefusal x 3 (faults.Model k.place n)) name moved) k.refused
+
+pub one_answer : (command : Command) (input : List ℕ) (x y : Answered) → IsAnswer command input x → IsAnswer command input y → x ≡ y
+one_answer command input x y (inl h) (inl k) = both_unread input x y h k
+one_answer command input x y (inl h) (inr k) = absurd (model_or_fault input k.model h.place h.name k.reads h.is_fault)
+one_answer command input x y (inr h) (inl k) = absurd (model_or_fault input h.model k.place k.name h.reads k.is_fault)
+one_answer command input x y (inr h) (inr k) =
+    let same = one_model input h.model k.model h.reads k.reads in
+    one_model_answer command k.model x y (subst (λ (m : PepaModel). IsModelAnswer command m x) same h.answer) k.answer

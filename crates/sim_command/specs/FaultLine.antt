@@ -1,14 +1,31 @@
 -- The line that tells a fault.
 use Rattle.std.specs.Prelude.{ℕ, List, [], ◌∷◌, ◌++◌, codes, decimal}
-use Rattle.sim_command.specs.declared.fault.Place.{Place}
+use Rattle.pepa_lexer.specs.declared.kinds.Place.{Place}
 use Rattle.sim_command.specs.declared.fault.FaultName.{FaultName}
-use Rattle.sim_command.specs.declared.fault.FaultName.TheVariants.{Unsupported}
+use Rattle.sim_command.specs.declared.fault.FaultName.TheVariants.{BadByte, BadNumber, LongName, OpenComment, TooDeep, Array, Wildcard, Expected, TooMany, Twice, UnknownName, TauInSet, BadRate, NotSequential, ModelCycle, Unguarded, MixedChoice, Unsupported}
 use Rattle.sim_command.specs.declared.fault.Stop.{Stop}
 use Rattle.sim_command.specs.declared.fault.Stop.TheVariants.{Mixed, Overflow, ListTooLong, PassiveLeft, WeightOverflow, TimeOverflow, DrawLimit}
 use Rattle.sim_command.specs.declared.fault.Fault.{Fault}
 use Rattle.sim_command.specs.declared.fault.Fault.TheVariants.{Memory, Usage, TooLong, Model, ReadFault, WriteFault, StepsStopped}
 
 abbrev pub name_text : FaultName → List ℕ
+name_text BadByte = codes "bad byte"
+name_text BadNumber = codes "bad number"
+name_text LongName = codes "long name"
+name_text OpenComment = codes "open comment"
+name_text TooDeep = codes "too deep"
+name_text Array = codes "array"
+name_text Wildcard = codes "wildcard"
+name_text Expected = codes "expected"
+name_text TooMany = codes "too many"
+name_text Twice = codes "defined twice"
+name_text UnknownName = codes "unknown name"
+name_text TauInSet = codes "tau in set"
+name_text BadRate = codes "bad rate"
+name_text NotSequential = codes "not sequential"
+name_text ModelCycle = codes "model cycle"
+name_text Unguarded = codes "unguarded"
+name_text MixedChoice = codes "mixed choice"
 name_text Unsupported = codes "unsupported"
 
 abbrev pub stop_text : Stop → List ℕ

@@ -5,9 +5,8 @@ use Rattle.sim_outside.specs.Sink.{Grows}
 use Rattle.sim_outside.specs.ReadAll.{ReadsToEnd}
 use Rattle.sim_outside.specs.declared.reading.ReadEnd.TheVariants.{ReadFault, TooLong}
 use Rattle.sim_command.specs.declared.fault.Fault.TheVariants as faults
-use Rattle.sim_command.specs.declared.answer.Answered.{Answered}
+use Rattle.sim_command.specs.declared.answered.Answered.{Answered}
 use Rattle.sim_command.specs.declared.words.Command.{Command}
-use Rattle.sim_command.specs.declared.words.Command.TheVariants.{Steps}
 use Rattle.sim_command.specs.Words.{IsCommand}
 use Rattle.sim_command.specs.FaultLine.{fault_text}
 use Rattle.sim_command.specs.Answer.{IsAnswer}
@@ -48,9 +47,13 @@ pub record EndsInUsage (words : List (List ℕ)) (source out : Seen) (line : Lis
   pub out_stays : IsUntouched out
   pub line_is : line ≡ fault_text faults.Usage
 
--- the words ask for the input, and it was read to its end
+-- the words give a command
+abbrev pub AreCommand : List (List ℕ) → Type 0
+AreCommand words = (command : Command) × IsCommand words command
+
+-- the words give a command, and the input was read to its end
 pub record IsReadThrough (words : List (List ℕ)) (source : Seen) : Type 0 where
-  pub command : IsCommand words Steps
+  pub command : AreCommand words
   pub input : List ℕ
   pub few : length input ≤ 2 ^ 20
   pub read : AreAllLeft source.before source.after input
@@ -68,7 +71,7 @@ pub record EndsInMemory (words : List (List ℕ)) (source out : Seen) (line : Li
 
 -- status 4: a read failed
 pub record EndsInReadFault (words : List (List ℕ)) (source out : Seen) (line : List ℕ) (status : ℕ) : Type 0 where
-  pub command : IsCommand words Steps
+  pub command : AreCommand words
   pub failed : Rose source.faults source.faults_after
   pub read : ReadsToEnd source.before source.after (2 ^ 20) (Err ReadFault)
   pub status_is : status ≡ 4
@@ -77,19 +80,20 @@ pub record EndsInReadFault (words : List (List ℕ)) (source out : Seen) (line :
 
 -- status 3: more than 2^20 bytes came
 pub record EndsTooLong (words : List (List ℕ)) (source out : Seen) (line : List ℕ) (status : ℕ) : Type 0 where
-  pub command : IsCommand words Steps
+  pub command : AreCommand words
   pub read : ReadsToEnd source.before source.after (2 ^ 20) (Err TooLong)
   pub status_is : status ≡ 3
   pub out_stays : IsUntouched out
   pub line_is : line ≡ fault_text faults.TooLong
 
--- the input was read to its end, and this is the answer to it
+-- the input was read to its end, and this is the answer of the command to these bytes
 pub record IsAnswered (words : List (List ℕ)) (source : Seen) (answer : Answered) : Type 0 where
-  pub command : IsCommand words Steps
+  pub command : Command
+  pub is_command : IsCommand words command
   pub input : List ℕ
   pub few : length input ≤ 2 ^ 20
   pub read : AreAllLeft source.before source.after input
-  pub is : IsAnswer input answer
+  pub is : IsAnswer command input answer
 
 -- status 0, 3 or 6: the answer's, and its bytes are written
 pub record EndsInAnswer (words : List (List ℕ)) (source out : Seen) (line : List ℕ) (status : ℕ) : Type 0 where
@@ -130,7 +134,7 @@ IsDelivery answer out line status =
     ((status ≡ answer.status) × Wrote out answer.out × (line ≡ answer.line))
     ⊎ ((status ≡ 5) × WroteFront out answer.out × (line ≡ fault_text faults.WriteFault))
 
--- the input is answered, and the answer delivered, or the memory ran out
-abbrev pub IsInputEnding : List ℕ → Seen → List ℕ → ℕ → Type 0
-IsInputEnding input out line status =
-    IsOutOfMemory out line status ⊎ ((answer : Answered) × IsAnswer input answer × IsDelivery answer out line status)
+-- the command answers the input, and the answer is delivered, or the memory ran out
+abbrev pub IsInputEnding : Command → List ℕ → Seen → List ℕ → ℕ → Type 0
+IsInputEnding command input out line status =
+    IsOutOfMemory out line status ⊎ ((answer : Answered) × IsAnswer command input answer × IsDelivery answer out line status)

@@ -1,16 +1,45 @@
 //! What can keep the program from an answer.
 
-/// A place in a text: its line and its column, from 1.
-#[derive(Clone, Copy, Debug, PartialEq, Eq)]
-pub struct Place {
-    pub line: u32,
-    pub column: u32,
-}
+pub use pepa_lexer::Place;
 
 /// What is wrong with a text that is no model.
 #[derive(Clone, Copy, Debug, PartialEq, Eq)]
 pub enum FaultName {
-    /// It isn't in the form that is read, or is above a limit of that form.
+    /// A byte begins no token.
+    BadByte,
+    /// A number has too many digits, none behind its point, or a letter or `_` at once behind it.
+    BadNumber,
+    /// A name has more than 64 bytes.
+    LongName,
+    /// A comment has no end.
+    OpenComment,
+    /// An item has more than 2,048 tokens.
+    TooDeep,
+    /// A `[` can't follow.
+    Array,
+    /// A `*` behind a `<` can't follow.
+    Wildcard,
+    /// A token can't follow.
+    Expected,
+    /// A limit is passed.
+    TooMany,
+    /// A name has two lines.
+    Twice,
+    /// A name has no line.
+    UnknownName,
+    /// A set has `tau`.
+    TauInSet,
+    /// A rate has no value in range.
+    BadRate,
+    /// What has to be sequential has a cooperation or a hiding.
+    NotSequential,
+    /// A compound constant reaches itself.
+    ModelCycle,
+    /// A sequential constant reaches itself with no activity between.
+    Unguarded,
+    /// A component has an active and a passive activity of one type.
+    MixedChoice,
+    /// It isn't supported yet.
     Unsupported,
 }
 
@@ -42,7 +71,7 @@ pub enum Fault {
     Usage,
     /// The model's text is too long.
     TooLong,
-    /// The text is no model.
+    /// The text is no model, or none that the command supports.
     Model { place: Place, name: FaultName },
     /// A read failed.
     ReadFault,

@@ -46,10 +46,34 @@ fn model_words(place: &Place, name: &FaultName) -> Line
     line.push(b':');
     line.push_decimal(place.column);
     line.push(b' ');
-    line.push_text(match name {
-        FaultName::Unsupported => b"unsupported",
-    });
+    line.push_text(fault_name(name));
     line
+}
+
+fn fault_name(name: &FaultName) -> &[u8]
+    ensures name { result.now ≡ name_text name.now }
+    ensures room { length result.now ≤ 20 }
+{
+    match name {
+        FaultName::BadByte => b"bad byte",
+        FaultName::BadNumber => b"bad number",
+        FaultName::LongName => b"long name",
+        FaultName::OpenComment => b"open comment",
+        FaultName::TooDeep => b"too deep",
+        FaultName::Array => b"array",
+        FaultName::Wildcard => b"wildcard",
+        FaultName::Expected => b"expected",
+        FaultName::TooMany => b"too many",
+        FaultName::Twice => b"defined twice",
+        FaultName::UnknownName => b"unknown name",
+        FaultName::TauInSet => b"tau in set",
+        FaultName::BadRate => b"bad rate",
+        FaultName::NotSequential => b"not sequential",
+        FaultName::ModelCycle => b"model cycle",
+        FaultName::Unguarded => b"unguarded",
+        FaultName::MixedChoice => b"mixed choice",
+        FaultName::Unsupported => b"unsupported",
+    }
 }
 
 fn stop_words(stop: &Stop) -> Line

@@ -1,15 +1,22 @@
 //! Laws of the definitions. Each function's contract is a law, and a call costs nothing.
 ghost use Rattle.std.specs.Prelude.{◌≡◌, ℕ, List};
+ghost use Rattle.pepa_lexer.specs.declared.kinds.Place.{Place};
 ghost use Rattle.pepa_model.specs.PepaModel.{PepaModel};
-ghost use Rattle.sim_command.specs.declared.answer.Answered.{Answered};
-ghost use Rattle.sim_command.specs.Answer.{Reads, IsAnswer};
+ghost use Rattle.pepa_checks.specs.CheckedFiles.{Reads};
+ghost use Rattle.sim_command.specs.declared.fault.FaultName.{FaultName};
+ghost use Rattle.sim_command.specs.declared.answered.Answered.{Answered};
+ghost use Rattle.sim_command.specs.declared.words.Command.{Command};
+ghost use Rattle.sim_command.specs.ModelFaults.{IsModelFault};
+ghost use Rattle.sim_command.specs.Answer.{IsAnswer};
 
-/// An input has at most one model.
-pub fn one_model()
-    ensures { (input : List ℕ) (x y : PepaModel) → Reads input x → Reads input y → x ≡ y }
+/// An input has at most one model or one fault, and not both.
+pub fn one_outcome()
+    ensures model { (input : List ℕ) (x y : PepaModel) → Reads input x → Reads input y → x ≡ y }
+    ensures fault { (input : List ℕ) (here there : Place) (name other : FaultName) → IsModelFault input here name → IsModelFault input there other → (here ≡ there) × (name ≡ other) }
+    ensures apart { (input : List ℕ) (m : PepaModel) (place : Place) (name : FaultName) → Reads input m → ¬ IsModelFault input place name }
 {}
 
-/// An input has at most one answer.
+/// A command has at most one answer to an input.
 pub fn one_answer()
-    ensures { (input : List ℕ) (x y : Answered) → IsAnswer input x → IsAnswer input y → x ≡ y }
+    ensures { (command : Command) (input : List ℕ) (x y : Answered) → IsAnswer command input x → IsAnswer command input y → x ≡ y }
 {}

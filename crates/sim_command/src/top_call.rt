@@ -5,7 +5,8 @@ ghost use Rattle.sim_command.specs.FaultLine.{fault_text};
 ghost use Rattle.sim_command.specs.Words.{IsCommand};
 ghost use Rattle.sim_command.specs.TopCall.{IsEnding, IsInputEnding, IsDelivery, IsTold, seen};
 
-use crate::answer::{Answered, answer_steps};
+use crate::answer::command_answer;
+use crate::answered::Answered;
 use crate::fault::Fault;
 use crate::fault_lines::fault_line;
 use crate::line::Line;
@@ -29,7 +30,7 @@ pub(crate) struct Ending {
 /// - 0: the answer is written on `out` in full;
 /// - 1: the memory ran out;
 /// - 2: the words give no command;
-/// - 3: the input is refused;
+/// - 3: the input is refused, or the command does not support its model;
 /// - 4: a read failed;
 /// - 5: a write of the answer failed;
 /// - 6: the verdict on the model names a stop.
@@ -62,22 +63,27 @@ fn run<S: Source, K: Sink>(alloc: Global, words: &[String], source: &mut S, out:
         result.line result.status }
 {
     match read_words(alloc, words) {
-        Ok(Command::Steps) => run_steps(alloc, source, out),
+        Ok(command) => run_command(alloc, command, source, out),
         Err(WordsFault::Usage) => refused(2, &Fault::Usage),
         Err(WordsFault::Memory) => refused(1, &Fault::Memory),
     }
 }
 
 // Reads the input and answers it.
-fn run_steps<S: Source, K: Sink>(alloc: Global, source: &mut S, out: &mut K) -> Ending
-    ensures { (words : List (List ℕ)) → IsCommand words Command.Steps
+fn run_command<S: Source, K: Sink>(
+    alloc: Global,
+    command: Command,
+    source: &mut S,
+    out: &mut K,
+) -> Ending
+    ensures { (words : List (List ℕ)) → IsCommand words command
         → IsEnding words
         (seen (S.left source.old) (S.left source.new) (S.faults source.old) (S.faults source.new))
         (seen (K.written out.old) (K.written out.new) (K.faults out.old) (K.faults out.new))
         result.line result.status }
 {
     match read_all(alloc, source, MOST_BYTES) {
-        Ok(input) => answer_input(alloc, input.as_slice(), out),
+        Ok(input) => answer_input(alloc, command, input.as_slice(), out),
         Err(ReadEnd::ReadFault) => refused(4, &Fault::ReadFault),
         Err(ReadEnd::TooLong) => refused(3, &Fault::TooLong),
         Err(ReadEnd::Memory) => refused(1, &Fault::Memory),
@@ -85,13 +91,13 @@ fn run_steps<S: Source, K: Sink>(alloc: Global, source: &mut S, out: &mut K) -> 
 }
 
 // Answers an input that was read.
-fn answer_input<K: Sink>(alloc: Global, input: &[u8], out: &mut K) -> Ending
+fn answer_input<K: Sink>(alloc: Global, command: Command, input: &[u8], out: &mut K) -> Ending
     requires { length input.now ≤ 2 ^ 20 }
-    ensures { IsInputEnding input.now
+    ensures { IsInputEnding command input.now
         (seen (K.written out.old) (K.written out.new) (K.faults out.old) (K.faults out.new))
         result.line result.status }
 {
-    match answer_steps(alloc, input) {
+    match command_answer(alloc, command, input) {
         Ok(answered) => deliver(answered, out),
         Err(_error) => refused(1, &Fault::Memory),
     }

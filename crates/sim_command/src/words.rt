@@ -8,6 +8,8 @@ use std::alloc::Global;
 pub enum Command {
     /// Print the transitions of a system.
     Steps,
+    /// Check a model, and print how many parts it has.
+    Check,
 }
 
 /// Why the words of a call weren't read.
@@ -25,6 +27,7 @@ pub fn read_words(_alloc: Global, words: &[String]) -> Result<Command, WordsFaul
 {
     match words {
         [word] if word.as_str() == "steps" => Ok(Command::Steps),
+        [word] if word.as_str() == "check" => Ok(Command::Check),
         _ => Err(WordsFault::Usage),
     }
 }

@@ -1,14 +1,7 @@
 use super::*;
-use crate::numbering::number_text;
-use crate::small_text::{TextFault, read_text};
+use crate::model_reading::read_model;
 use pepa_rates::Frac;
-use std::alloc::Global;
 use std::test::Fail;
-
-fn model_of(alloc: Global, input: &[u8]) -> Result<Model, TextFault> {
-    let text = read_text(alloc, input)?;
-    number_text(alloc, &text)
-}
 
 #[test]
 fn apparent_rates(rt: HostRuntime) -> Result<(), Fail> {
@@ -26,9 +19,10 @@ fn apparent_rates(rt: HostRuntime) -> Result<(), Fail> {
             1,
             Err(RateFault::Overflow),
         ),
+        ("P = (a,infty).P + (a,2*infty).P; P", 1, Ok(Some(3))),
     ];
     for (input, action, want) in table {
-        let model = model_of(rt.alloc(), input.as_bytes())?;
+        let model = read_model(rt.alloc(), input.as_bytes())?;
         assert!(rt; model.leaves.len() > 0);
         let found = apparent(&model, &Term::Leaf(0), action);
         let whole = found.map(|rate| rate.map(whole_rate));
@@ -37,10 +31,11 @@ fn apparent_rates(rt: HostRuntime) -> Result<(), Fail> {
     Ok(())
 }
 
-// An active rate over 1, or 0.
+// A rate or a weight over 1, or 0.
 fn whole_rate(rate: Rate) -> u64 {
     match rate {
         Rate::Active(Frac { num, den: 1 }) => num,
+        Rate::Passive(Frac { num, den: 1 }) => num,
         _ => 0,
     }
 }

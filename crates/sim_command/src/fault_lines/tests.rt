@@ -7,8 +7,42 @@ fn fault_at(line: u32, column: u32) -> Fault {
     }
 }
 
+fn named(name: FaultName) -> Fault {
+    Fault::Model {
+        place: Place { line: 2, column: 7 },
+        name,
+    }
+}
+
 fn stopped(stop: Stop) -> Fault {
     Fault::StepsStopped { stop }
+}
+
+#[test]
+fn names_each_fault_of_a_model(rt: HostRuntime) {
+    let table = [
+        (FaultName::BadByte, "model 2:7 bad byte\n"),
+        (FaultName::BadNumber, "model 2:7 bad number\n"),
+        (FaultName::LongName, "model 2:7 long name\n"),
+        (FaultName::OpenComment, "model 2:7 open comment\n"),
+        (FaultName::TooDeep, "model 2:7 too deep\n"),
+        (FaultName::Array, "model 2:7 array\n"),
+        (FaultName::Wildcard, "model 2:7 wildcard\n"),
+        (FaultName::Expected, "model 2:7 expected\n"),
+        (FaultName::TooMany, "model 2:7 too many\n"),
+        (FaultName::Twice, "model 2:7 defined twice\n"),
+        (FaultName::UnknownName, "model 2:7 unknown name\n"),
+        (FaultName::TauInSet, "model 2:7 tau in set\n"),
+        (FaultName::BadRate, "model 2:7 bad rate\n"),
+        (FaultName::NotSequential, "model 2:7 not sequential\n"),
+        (FaultName::ModelCycle, "model 2:7 model cycle\n"),
+        (FaultName::Unguarded, "model 2:7 unguarded\n"),
+        (FaultName::MixedChoice, "model 2:7 mixed choice\n"),
+        (FaultName::Unsupported, "model 2:7 unsupported\n"),
+    ];
+    for (name, text) in table {
+        assert_eq!(rt; fault_line(&named(name)).as_slice(), text.as_bytes());
+    }
 }
 
 #[test]

@@ -37,8 +37,21 @@ fn call(
     Ok((status, out, err))
 }
 
+// An input with the status, the output and the line that are wanted.
+type Row<'a> = (&'a str, u8, &'a str, &'a str);
+
+fn is_answered(alloc: Global, word: &str, row: &Row) -> Result<bool, AllocError> {
+    let (input, status, out, line) = *row;
+    let ended = call(alloc, &[word], input.as_bytes(), &SOUND)?;
+    Ok(
+        ended.0 == status
+            && ended.1.written() == out.as_bytes()
+            && ended.2.written() == line.as_bytes(),
+    )
+}
+
 #[test]
-fn answers(rt: HostRuntime) -> Result<(), Fail> {
+fn steps_of_models(rt: HostRuntime) -> Result<(), Fail> {
     let table = [
         ("P = (a, 2).P + (a, 2).P; P", 0, "a 2 P\na 2 P\n", ""),
         (
@@ -73,32 +86,105 @@ fn answers(rt: HostRuntime) -> Result<(), Fail> {
             "b 1 P\n",
             "",
         ),
-        ("", 3, "", "model 1:1 unsupported\n"),
+        // The system is a component of its own, and a target is written as it stands.
+        (
+            "r = 3/4; P = (a,2).P; Q = (d,1).Q; (b,r).Q + (c,1.5).(a,2).P",
+            0,
+            "b 3/4 Q\nc 3/2 (a, 2).P\n",
+            "",
+        ),
+        // A constant does what the constant that it stands for does.
+        ("P = (tau,1).Q; Q = P; Q; // end", 0, "tau 1 Q\n", ""),
+        // A passive rate that no activity uses.
+        ("r = infty; P = (a,1).P; P", 0, "a 1 P\n", ""),
+    ];
+    for row in table {
+        assert!(rt; is_answered(rt.alloc(), "steps", &row)?, "{}", row.0);
+    }
+    Ok(())
+}
+
+#[test]
+fn models_that_steps_refuses(rt: HostRuntime) -> Result<(), Fail> {
+    let table = [
+        "P = (a,2).P; Q = (a,3).Q1 + (a,1).Q2; Q1 = (b,1).Q; Q2 = (b,1).Q; P <a> Q",
+        "P = (a,6).P; Q = (a,infty).Q + (a,2*infty).Q; P <a> Q",
+        "P = (a,1).P; P / {a}",
+        "P = (a,1).P; A = P || P; P",
+        "P = (a,1).P; A = P || P; A",
+        "P = (a,1).P; Q = (b,1).(c,infty).Q; P",
+        "P = (a,1).P; (b,T).P",
+    ];
+    for input in table {
+        let row = (input, 3, "", "model 1:1 unsupported\n");
+        assert!(rt; is_answered(rt.alloc(), "steps", &row)?, "{input}");
+    }
+    Ok(())
+}
+
+#[test]
+fn counts_of_models(rt: HostRuntime) -> Result<(), Fail> {
+    let table = [
         (
             "P = (a,2).P; Q = (a,3).Q1 + (a,1).Q2; Q1 = (b,1).Q; Q2 = (b,1).Q; P <a> Q",
-            3,
+            0,
+            "ok constants 4 actions 2 probes 0 leaves 2\n",
             "",
-            "model 1:1 unsupported\n",
         ),
         (
-            "P = (a,6).P; Q = (a,infty).Q + (a,2*infty).Q; P <a> Q",
-            3,
+            "P = (tau,1).P; P",
+            0,
+            "ok constants 1 actions 0 probes 0 leaves 1\n",
             "",
-            "model 1:1 unsupported\n",
         ),
-        ("P = (a,1).Q; P", 3, "", "model 1:1 unsupported\n"),
+        // The leaves are the system's: those of a compound constant count as often as it is written.
         (
-            "P = (a,1).P; P = (a,1).P; P",
-            3,
+            "P = (a,1).P; Q = (b,T).(a,1).Q; A = P || Q; B = A <a> A || A; (P <b, c> B) / {a}",
+            0,
+            "ok constants 4 actions 3 probes 0 leaves 7\n",
             "",
-            "model 1:1 unsupported\n",
         ),
     ];
-    for (input, status, out, err) in table {
-        let ended = call(rt.alloc(), &["steps"], input.as_bytes(), &SOUND)?;
-        assert_eq!(rt; ended.0, status, "{input}");
-        assert_eq!(rt; ended.1.written(), out.as_bytes(), "{input}");
-        assert_eq!(rt; ended.2.written(), err.as_bytes(), "{input}");
+    for row in table {
+        assert!(rt; is_answered(rt.alloc(), "check", &row)?, "{}", row.0);
+    }
+    Ok(())
+}
+
+#[test]
+fn texts_without_a_model(rt: HostRuntime) -> Result<(), Fail> {
+    let table = [
+        ("", "model 1:1 expected\n"),
+        ("P = (a", "model 1:7 expected\n"),
+        ("P /* x", "model 1:3 open comment\n"),
+        ("P = (a,1).P; P %", "model 1:16 bad byte\n"),
+        ("P = (a,1.).P; P", "model 1:8 bad number\n"),
+        ("P = (a,1).P; P[3]", "model 1:15 array\n"),
+        ("P = (a,1).P; P <*> P", "model 1:17 wildcard\n"),
+        ("P = (a,1).P; probe a; P", "model 1:14 unsupported\n"),
+        ("P = (a,1).P; P = (a,1).P; P", "model 1:14 defined twice\n"),
+        ("P = (a,1).Q; P", "model 1:11 unknown name\n"),
+        ("P = (a,1).P;\nP <tau> P", "model 2:4 tau in set\n"),
+        ("P = (a,0).P; P", "model 1:8 bad rate\n"),
+        ("P = (a,1).(P || P); P", "model 1:12 not sequential\n"),
+        ("P = (a,1).P; A = A || P; A", "model 1:14 model cycle\n"),
+        ("A = A + (a,1).A; A", "model 1:1 unguarded\n"),
+        (
+            "P=(a,1).P; A=P||P; B=A||A; C=B||B; D=C||C; E=D||D; F=E||E; G=F||F;\nG || G",
+            "model 2:1 too many\n",
+        ),
+        ("P = (a,1).P + (a,infty).P; P", "model 1:15 mixed choice\n"),
+        // The tokens' fault goes before the grammar's, which stands in front of it, and this before the check's.
+        ("P = ; Q %", "model 1:9 bad byte\n"),
+        ("P = (a,0).P; P P", "model 1:16 expected\n"),
+    ];
+    for (input, line) in table {
+        for word in ["steps", "check"] {
+            assert!(rt;
+                is_answered(rt.alloc(), word, &(input, 3, "", line))?,
+                "{input}"
+            );
+        }
     }
     Ok(())
 }
@@ -154,8 +240,8 @@ fn a_failing_line_changes_no_status(rt: HostRuntime) -> Result<(), Fail> {
         failing_lines: &[2],
         ..SOUND
     };
-    let (status, _out, err) = call(rt.alloc(), &["steps"], b"P = (a,1).Q; P", &devices)?;
+    let (status, _out, err) = call(rt.alloc(), &["check"], b"P = (a,1).Q; P", &devices)?;
     assert_eq!(rt; status, 3);
-    assert_eq!(rt; err.written(), b"model 1:1 ".as_slice());
+    assert_eq!(rt; err.written(), b"model 1:11".as_slice());
     Ok(())
 }

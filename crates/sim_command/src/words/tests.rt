@@ -2,25 +2,23 @@ use super::*;
 use std::test::Fail;
 
 #[test]
-fn steps_is_the_only_command(rt: HostRuntime) -> Result<(), Fail> {
+fn one_word_is_a_command(rt: HostRuntime) -> Result<(), Fail> {
     let table = [
-        ([].as_slice(), false),
-        (["steps"].as_slice(), true),
-        (["steps", "x"].as_slice(), false),
-        (["step"].as_slice(), false),
-        (["stepss"].as_slice(), false),
-        ([""].as_slice(), false),
+        ([].as_slice(), Err(WordsFault::Usage)),
+        (["steps"].as_slice(), Ok(Command::Steps)),
+        (["check"].as_slice(), Ok(Command::Check)),
+        (["steps", "x"].as_slice(), Err(WordsFault::Usage)),
+        (["check", "steps"].as_slice(), Err(WordsFault::Usage)),
+        (["step"].as_slice(), Err(WordsFault::Usage)),
+        (["stepss"].as_slice(), Err(WordsFault::Usage)),
+        (["Check"].as_slice(), Err(WordsFault::Usage)),
+        ([""].as_slice(), Err(WordsFault::Usage)),
     ];
-    for (texts, is_command) in table {
+    for (texts, want) in table {
         let mut words = Vec::new(rt.alloc());
         for text in texts {
             words.push(String::from_str(rt.alloc(), text)?)?;
         }
-        let want = if is_command {
-            Ok(Command::Steps)
-        } else {
-            Err(WordsFault::Usage)
-        };
         assert_eq!(rt; read_words(rt.alloc(), words.as_slice()), want);
     }
     Ok(())

@@ -1,5 +1,5 @@
-use Rattle.sim_command.proofs.OneAnswer.{same_answer}
+use Rattle.sim_command.proofs.OneAnswer.{one_answer}
 use Rattle.sim_command.proofs.laws.one_answer.Goals as goal
 
 pub returns : goal.returns
-returns c = same_answer
+returns c = one_answer

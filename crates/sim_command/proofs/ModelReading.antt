@@ -1,0 +1,50 @@
+-- How reading a model ends.
+use Rattle.std.proofs.Common.{◌≡◌, ℕ, List, Err, inl, inr, refl, sym, subst}
+use Rattle.pepa_lexer.specs.declared.kinds.Token.{Token}
+use Rattle.pepa_lexer.specs.declared.kinds.LexFault.{LexFault}
+use Rattle.pepa_lexer.specs.declared.kinds.LexFault.TheVariants as lexer
+use Rattle.pepa_lexer.specs.TokenLists.{IsTokens}
+use Rattle.pepa_lexer.specs.Faults.{AnswersTokens}
+use Rattle.pepa_reader.specs.declared.trees.FileTree.{FileTree}
+use Rattle.pepa_reader.specs.declared.fault.FileFault.{FileFault}
+use Rattle.pepa_reader.specs.declared.fault.FileFault.TheVariants as reader
+use Rattle.pepa_reader.specs.Terminals.{terminals}
+use Rattle.pepa_reader.specs.Trees.{file_node_of}
+use Rattle.pepa_reader.specs.FileAnswers.{IsFileTree, ReadsFile}
+use Rattle.pepa_resolver.specs.declared.cause.CheckEnd.{CheckEnd}
+use Rattle.pepa_resolver.specs.declared.cause.CheckEnd.TheVariants as ends
+use Rattle.pepa_checks.specs.CheckedFiles.{Checks}
+use Rattle.sim_command.specs.declared.model_reading.ModelFault.{ModelFault}
+use Rattle.sim_command.specs.ModelFaults.{told_of_tokens, told_of_file, told_of_check, ReadsModel}
+
+module _ (input : List ℕ) where
+  of_tokens : (fault : LexFault) → AnswersTokens input (Err fault) → ReadsModel input (Err (told_of_tokens fault))
+  of_tokens (lexer.BadByte place) h = inl (record { fault = lexer.BadByte place; is_fault = h; told = refl })
+  of_tokens (lexer.BadNumber place) h = inl (record { fault = lexer.BadNumber place; is_fault = h; told = refl })
+  of_tokens (lexer.LongName place) h = inl (record { fault = lexer.LongName place; is_fault = h; told = refl })
+  of_tokens (lexer.OpenComment place) h = inl (record { fault = lexer.OpenComment place; is_fault = h; told = refl })
+  of_tokens lexer.Memory h = tt
+
+  pub no_tokens : (fault : LexFault) (end : ModelFault) → end ≡ told_of_tokens fault → AnswersTokens input (Err fault) → ReadsModel input (Err end)
+  no_tokens fault end told h = subst (λ (f : ModelFault). ReadsModel input (Err f)) (sym told) (of_tokens fault h)
+
+  module _ (tokens : List Token) (are : IsTokens input tokens) where
+    of_file : (fault : FileFault) → ReadsFile input tokens (Err fault) → ReadsModel input (Err (told_of_file fault))
+    of_file (reader.Expected place) h = inr (inl (record { tokens = tokens; are_tokens = are; fault = reader.Expected place; is_fault = h; told = refl }))
+    of_file (reader.TooDeep place) h = inr (inl (record { tokens = tokens; are_tokens = are; fault = reader.TooDeep place; is_fault = h; told = refl }))
+    of_file (reader.Array place) h = inr (inl (record { tokens = tokens; are_tokens = are; fault = reader.Array place; is_fault = h; told = refl }))
+    of_file (reader.Wildcard place) h = inr (inl (record { tokens = tokens; are_tokens = are; fault = reader.Wildcard place; is_fault = h; told = refl }))
+    of_file (reader.Unsupported place) h = inr (inl (record { tokens = tokens; are_tokens = are; fault = reader.Unsupported place; is_fault = h; told = refl }))
+    of_file reader.Memory h = tt
+
+    pub no_file : (fault : FileFault) (end : ModelFault) → end ≡ told_of_file fault → ReadsFile input tokens (Err fault) → ReadsModel input (Err end)
+    no_file fault end told h = subst (λ (f : ModelFault). ReadsModel input (Err f)) (sym told) (of_file fault h)
+
+    module _ (tree : FileTree) (is_tree : IsFileTree (terminals input tokens) tree) where
+      of_check : (end : CheckEnd) → Checks input tokens (file_node_of tree) (Err end) → ReadsModel input (Err (told_of_check end))
+      of_check (ends.Refused cause place) h =
+          inr (inr (record { tokens = tokens; are_tokens = are; tree = tree; is_tree = is_tree; cause = cause; refused = h; name_is = refl }))
+      of_check ends.Memory h = tt
+
+      pub no_model : (why : CheckEnd) (end : ModelFault) → end ≡ told_of_check why → Checks input tokens (file_node_of tree) (Err why) → ReadsModel input (Err end)
+      no_model why end told h = subst (λ (f : ModelFault). ReadsModel input (Err f)) (sym told) (of_check why h)

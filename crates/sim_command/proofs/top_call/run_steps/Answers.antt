@@ -1,7 +1,0 @@
-use Rattle.sim_command.proofs.Endings.{all_left, ending}
-use Rattle.sim_command.proofs.top_call.run_steps.Goals as goal
-
-pub returns-in-Ok : goal.returns-in-Ok
-returns-in-Ok g c = λ words command.
-    ending words _ _ c.in-Ok.input _ _ command c.in-Ok.ensures.len (all_left _ _ _ c.in-Ok.input c.in-Ok.ensures.told)
-    (rw c.as_slice.ensures at c.answer_input.ensures)
