@@ -4,7 +4,7 @@ use Rattle.sim_outside.specs.ReadAll.{ReadsToEnd}
 use Rattle.pepa_model.specs.PepaModel.{PepaModel}
 use Rattle.sim_command.specs.declared.answered.Answered.{Answered}
 use Rattle.sim_command.specs.declared.words.Command.{Command}
-use Rattle.sim_command.specs.declared.words.Command.TheVariants.{Steps, Check}
+use Rattle.sim_command.specs.declared.words.Command.TheVariants.{Steps, Check, Print}
 use Rattle.sim_command.specs.Words.{IsCommand}
 use Rattle.sim_command.specs.ModelAnswers.{IsModelAnswer}
 use Rattle.sim_command.specs.Answer.{IsAnswer}
@@ -24,6 +24,7 @@ written_of_model Steps m answer out (inl unsupported) wrote = absurd (no_front o
 written_of_model Steps m answer out (inr (inl stopped)) wrote = absurd (no_front out answer.out stopped.refused.out_is wrote)
 written_of_model Steps m answer out (inr (inr listed)) wrote = listed.status_is
 written_of_model Check m answer out counted wrote = counted.status_is
+written_of_model Print m answer out printed wrote = printed.status_is
 
 -- so has any answer
 written_is_listed : (command : Command) (input : List ℕ) (answer : Answered) (out : Seen) → IsAnswer command input answer → WroteFront out answer.out → answer.status ≡ 0

@@ -8,7 +8,7 @@ use Rattle.pepa_checks.proofs.OneModel.{one_model}
 use Rattle.pepa_checks.proofs.OneTree.{one_expansion}
 use Rattle.sim_command.specs.declared.answered.Answered.{Answered}
 use Rattle.sim_command.specs.declared.words.Command.{Command}
-use Rattle.sim_command.specs.declared.words.Command.TheVariants.{Steps, Check}
+use Rattle.sim_command.specs.declared.words.Command.TheVariants.{Steps, Check, Print}
 use Rattle.sim_command.specs.declared.fault.FaultName.{FaultName}
 use Rattle.sim_command.specs.declared.fault.Fault.{Fault}
 use Rattle.sim_command.specs.declared.fault.Fault.TheVariants as faults
@@ -81,6 +81,7 @@ one_model_answer : (command : Command) (m : PepaModel) (x y : Answered) → IsMo
 one_model_answer Steps m x y h k = one_steps_answer m x y h k
 one_model_answer Check m x y h k =
     same_parts x y (h.status_is ∙ sym k.status_is) (one_check_text m x.out y.out h.out_is k.out_is) (h.line_is ∙ sym k.line_is)
+one_model_answer Print m x y h k = same_parts x y (h.status_is ∙ sym k.status_is) (h.out_is ∙ sym k.out_is) (h.line_is ∙ sym k.line_is)
 
 both_unread : (input : List ℕ) (x y : Answered) → IsUnread input x → IsUnread input y → x ≡ y
 both_unread input x y h k =

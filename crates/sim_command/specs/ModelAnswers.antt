@@ -13,11 +13,12 @@ use Rattle.sim_command.specs.declared.fault.Stop.{Stop}
 use Rattle.sim_command.specs.declared.fault.Stop.TheVariants as stops
 use Rattle.sim_command.specs.declared.answered.Answered.{Answered}
 use Rattle.sim_command.specs.declared.words.Command.{Command}
-use Rattle.sim_command.specs.declared.words.Command.TheVariants.{Steps, Check}
+use Rattle.sim_command.specs.declared.words.Command.TheVariants.{Steps, Check, Print}
 use Rattle.sim_command.specs.StepsAnswers.{named_fault}
 use Rattle.sim_command.specs.FaultLine.{fault_text}
 use Rattle.sim_command.specs.TransitionsText.{transitions_text}
 use Rattle.sim_command.specs.Support.{IsSupported}
+use Rattle.pepa_printer.specs.ModelText.{model_text}
 use Rattle.sim_command.specs.CheckText.{IsCheckText}
 
 -- a status other than 0, with nothing for the output and the fault's line
@@ -78,9 +79,18 @@ pub record IsCheckAnswer (m : PepaModel) (answered : Answered) : Type 0 where
   pub out_is : IsCheckText m answered.out
   pub line_is : answered.line ≡ []
 
+-- ---- print
+
+-- the answer of `print` for a model: status 0, and its text
+pub record IsPrintAnswer (m : PepaModel) (answered : Answered) : Type 0 where
+  pub status_is : answered.status ≡ 0
+  pub out_is : answered.out ≡ model_text m
+  pub line_is : answered.line ≡ []
+
 -- ---- all commands
 
 -- the answer of a command for a model
 abbrev pub IsModelAnswer : Command → PepaModel → Answered → Type 0
 IsModelAnswer Steps m answered = IsStepsAnswer m answered
 IsModelAnswer Check m answered = IsCheckAnswer m answered
+IsModelAnswer Print m answered = IsPrintAnswer m answered

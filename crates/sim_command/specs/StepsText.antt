@@ -1,58 +1,12 @@
 -- The text of transitions: a line `action rate target` for each.
-use Rattle.std.specs.Prelude.{◌≡◌, ◌==◌, ◌&&◌, ℕ, ◌<◌, Bool, true, false, Option, Some, None, List, [], ◌∷◌, ◌++◌, length, slice_get, slice_index_or, codes, decimal, if◌then◌else◌}
+use Rattle.std.specs.Prelude.{◌≡◌, ℕ, ◌<◌, Option, Some, None, List, [], ◌∷◌, ◌++◌, length, slice_get, codes}
 use Rattle.std.specs.List.{All, flat_map}
-use Rattle.pepa_rates.specs.Fraction.{Fraction}
-use Rattle.pepa_rates.specs.declared.rate.Rate.{Rate}
-use Rattle.pepa_rates.specs.declared.rate.Rate.TheVariants.{Active, Passive}
-use Rattle.pepa_model.specs.Expression.{Expression, Const, Prefixed, Chosen}
+use Rattle.pepa_model.specs.Expression.{Expression}
 use Rattle.pepa_model.specs.PepaModel.{PepaModel}
 use Rattle.pepa_model.specs.Terms.{IsLeaf, IsTermOf}
 use Rattle.pepa_model.specs.declared.term.Term.{Term, Leaf}
 use Rattle.pepa_model.specs.declared.term.Step.{Step}
-
--- ---- rates
-
--- `3`, or `3/4`
-abbrev pub fraction_text : Fraction → List ℕ
-fraction_text q = if q.den == 1 then decimal q.num else decimal q.num ++ codes "/" ++ decimal q.den
-
-abbrev pub is_one : Fraction → Bool
-is_one q = (q.num == 1) && (q.den == 1)
-
--- a passive rate is a multiple of `infty`: `infty`, or `3/4*infty`
-abbrev pub weight_text : Fraction → List ℕ
-weight_text q = if is_one q then codes "infty" else fraction_text q ++ codes "*infty"
-
-abbrev pub rate_text : Rate → List ℕ
-rate_text (Active q) = fraction_text q
-rate_text (Passive q) = weight_text q
-
--- ---- components
-
-abbrev pub name_of : List (List ℕ) → ℕ → List ℕ
-name_of names n = slice_index_or names n []
-
-abbrev pub is_choice : Expression → Bool
-is_choice (Const c) = false
-is_choice (Prefixed a r next) = false
-is_choice (Chosen x y) = true
-
-abbrev pub in_brackets : List ℕ → List ℕ
-in_brackets text = codes "(" ++ text ++ codes ")"
-
--- what stands behind `.` or `+`: a choice stands there in brackets
-abbrev pub operand_text : Bool → List ℕ → List ℕ
-operand_text choice text = if choice then in_brackets text else text
-
--- `(a, r).`
-abbrev pub prefix_text : PepaModel → ℕ → Rate → List ℕ
-prefix_text m a r = codes "(" ++ name_of m.actions a ++ codes ", " ++ rate_text r ++ codes ")."
-
--- a component as it is written
-abbrev pub expression_text : PepaModel → Expression → List ℕ
-expression_text m (Const c) = name_of m.constants c
-expression_text m (Prefixed a r next) = prefix_text m a r ++ operand_text (is_choice next) (expression_text m next)
-expression_text m (Chosen x y) = expression_text m x ++ codes " + " ++ operand_text (is_choice y) (expression_text m y)
+use Rattle.pepa_printer.specs.ComponentText.{name_of, rate_text, expression_text}
 
 -- ---- transitions
 

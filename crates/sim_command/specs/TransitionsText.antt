@@ -4,7 +4,7 @@ use Rattle.std.specs.List.{flat_map}
 use Rattle.pepa_model.specs.Expression.{WordTerm, LeafOf}
 use Rattle.pepa_model.specs.Derivation.{Transition}
 use Rattle.pepa_model.specs.PepaModel.{PepaModel}
-use Rattle.sim_command.specs.StepsText.{name_of, rate_text, expression_text}
+use Rattle.pepa_printer.specs.ComponentText.{name_of, rate_text, expression_text}
 
 -- a term by the components of its leaves
 abbrev pub word_text : PepaModel → WordTerm → List ℕ

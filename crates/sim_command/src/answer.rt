@@ -11,6 +11,7 @@ use crate::model_reading::{ModelFault, read_model};
 use crate::model_steps::steps_answer;
 use crate::words::Command;
 use pepa_model::Model;
+use pepa_printer::print_model;
 use std::alloc::{AllocError, Global};
 
 /// The answer of `steps` to an input of at most 2^20 bytes: the transitions of its model's system.
@@ -27,6 +28,14 @@ pub fn answer_check(alloc: Global, input: &[u8]) -> Result<Answered, AllocError>
     ensures { IfOk result (IsAnswer Command.Check input.now) }
 {
     command_answer(alloc, Command::Check, input)
+}
+
+/// The answer of `print` to an input of at most 2^20 bytes: its model in its normal form.
+pub fn answer_print(alloc: Global, input: &[u8]) -> Result<Answered, AllocError>
+    requires { length input.now ≤ 2 ^ 20 }
+    ensures { IfOk result (IsAnswer Command.Print input.now) }
+{
+    command_answer(alloc, Command::Print, input)
 }
 
 /// The answer of a command to an input of at most 2^20 bytes. Where the input has no model, it is its first fault.
@@ -52,6 +61,11 @@ fn model_answer(alloc: Global, command: Command, model: &Model) -> Result<Answer
         Command::Check => Ok(Answered {
             status: 0,
             out: check_text(alloc, model)?,
+            line: Line::empty(),
+        }),
+        Command::Print => Ok(Answered {
+            status: 0,
+            out: print_model(alloc, model)?,
             line: Line::empty(),
         }),
     }

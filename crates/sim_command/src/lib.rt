@@ -20,7 +20,7 @@ mod transition_text;
 mod transitions;
 mod words;
 
-pub use answer::{answer_check, answer_steps, command_answer};
+pub use answer::{answer_check, answer_print, answer_steps, command_answer};
 pub use answered::Answered;
 pub use apparent_rate::apparent;
 pub use counts::check_text;

@@ -10,6 +10,8 @@ pub enum Command {
     Steps,
     /// Check a model, and print how many parts it has.
     Check,
+    /// Print a model in its normal form.
+    Print,
 }
 
 /// Why the words of a call weren't read.
@@ -28,6 +30,7 @@ pub fn read_words(_alloc: Global, words: &[String]) -> Result<Command, WordsFaul
     match words {
         [word] if word.as_str() == "steps" => Ok(Command::Steps),
         [word] if word.as_str() == "check" => Ok(Command::Check),
+        [word] if word.as_str() == "print" => Ok(Command::Print),
         _ => Err(WordsFault::Usage),
     }
 }

@@ -7,6 +7,7 @@ fn one_word_is_a_command(rt: HostRuntime) -> Result<(), Fail> {
         ([].as_slice(), Err(WordsFault::Usage)),
         (["steps"].as_slice(), Ok(Command::Steps)),
         (["check"].as_slice(), Ok(Command::Check)),
+        (["print"].as_slice(), Ok(Command::Print)),
         (["steps", "x"].as_slice(), Err(WordsFault::Usage)),
         (["check", "steps"].as_slice(), Err(WordsFault::Usage)),
         (["step"].as_slice(), Err(WordsFault::Usage)),
