@@ -111,6 +111,11 @@ fn most_leaves(rt: HostRuntime) -> Result<(), Fail> {
         Err(_) => 0,
     };
     assert_eq!(rt; leaves, 65_535);
+    Ok(())
+}
+
+#[test]
+fn one_leaf_too_many(rt: HostRuntime) -> Result<(), Fail> {
     let text = text_of_leaves(rt.alloc(), 64)?;
     assert!(rt; is_too_long(&rt, rt.alloc(), &text)?);
     Ok(())
