@@ -38,7 +38,7 @@ pub(crate) fn refusal(source: &Source, cause: CheckCause, at: usize) -> CheckEnd
     CheckEnd::Refused { cause, place }
 }
 
-/// Checks the limits, the names, the sets and the rates of a file, in this order. The checks of its structure aren't here yet.
+/// Checks the limits, the names, the sets and the rates of a file, in this order.
 ///
 /// `tokens` are those of `input`, and `tree` is read from them. A file is refused for the first of these that it has, and of
 /// one kind at the least place:

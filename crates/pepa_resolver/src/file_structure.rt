@@ -52,8 +52,7 @@ fn line_at(lines: &[ProcessLine], constant: u32) -> usize
     lines[constant as usize].at
 }
 
-/// Checks the limits, the names, the sets, the rates and the structure of a file, in this order. The checks of its further
-/// limits and of mixed choices, and its model, aren't here yet.
+/// Checks the limits, the names, the sets, the rates and the structure of a file, in this order.
 ///
 /// `tokens` are those of `input`, and `tree` is read from them. The first five kinds of refusal are those of
 /// [`check_names_and_rates`]; then come, each only where none before it does:

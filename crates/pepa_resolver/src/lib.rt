@@ -1,4 +1,5 @@
-//! The checks of a file: its limits, its names, its sets and its rates.
+//! The checks of a file up to its structure: its limits, its names, its sets, its rates, and what reaches itself. They put
+//! numbers in place of its names.
 #![tactic(auto)]
 
 mod cause;
