@@ -1,6 +1,7 @@
 #!/usr/bin/env bash
-# Runs `pepaprobe steps` on each model of examples/, and `pepaprobe check` where its answer is known, and compares the bytes of
-# both streams and the status with the files beside it, which were worked out by hand (examples/README.md).
+# Runs `pepaprobe steps` on each model of examples/, and `pepaprobe check` and `pepaprobe print` where their answers are known,
+# and compares the bytes of both streams and the status with the files beside it, which were worked out by hand
+# (examples/README.md). What is printed is printed again, and must be the same bytes.
 # shellcheck source=tests/common.bash
 . "$(dirname -- "$0")/common.bash"
 build_program
@@ -26,15 +27,23 @@ for model in examples/*.pepa; do
     ended=$?
     told "$model" "$wanted" "$wanted_out" "$wanted_err"
 
-    [ -f "$base.check" ] || continue
-    bin/pepaprobe check <"$model" >"$work/out" 2>"$work/err"
-    ended=$?
-    told "check of $model" 0 "$base.check" "$work/nothing"
+    if [ -f "$base.check" ]; then
+        bin/pepaprobe check <"$model" >"$work/out" 2>"$work/err"
+        ended=$?
+        told "check of $model" 0 "$base.check" "$work/nothing"
+    fi
+    if [ -f "$base.print" ]; then
+        for text in "$model" "$base.print"; do
+            bin/pepaprobe print <"$text" >"$work/out" 2>"$work/err"
+            ended=$?
+            told "print of $text" 0 "$base.print" "$work/nothing"
+        done
+    fi
 done
 [ "$count" -gt 0 ] || failed "examples/ has no model"
 
 # Each file beside a model belongs to one.
-for file in examples/*.steps examples/*.check examples/*.status examples/*.err; do
+for file in examples/*.steps examples/*.check examples/*.print examples/*.status examples/*.err; do
     [ -f "$file" ] || continue
     [ -f "${file%.*}.pepa" ] || failed "$file: there is no model ${file%.*}.pepa"
 done

@@ -51,6 +51,23 @@ fn is_answered(alloc: Global, word: &str, row: &Row) -> Result<bool, AllocError>
 }
 
 #[test]
+fn prints_of_models(rt: HostRuntime) -> Result<(), Fail> {
+    let table = [
+        (
+            "r = 3/2; P = (a, r).(b, 2*infty).P; Q = (b,1).Q + ((a,infty).Q + (c,2).Q); P <a,b> Q/{c}",
+            0,
+            "P = (a, 3/2).(b, 2*infty).P;\nQ = (b, 1).Q + ((a, infty).Q + (c, 2).Q);\nP <a,b> Q/{c}\n",
+            "",
+        ),
+        ("P = (a,1).Q; P", 3, "", "model 1:11 unknown name\n"),
+    ];
+    for row in table {
+        assert!(rt; is_answered(rt.alloc(), "print", &row)?);
+    }
+    Ok(())
+}
+
+#[test]
 fn steps_of_models(rt: HostRuntime) -> Result<(), Fail> {
     let table = [
         ("P = (a, 2).P + (a, 2).P; P", 0, "a 2 P\na 2 P\n", ""),
