@@ -7,6 +7,7 @@ cd "$(dirname -- "$0")/.." || exit 1
 status=0
 scripts=(bin/pepaprobe .ci/run tests/*.sh tests/common.bash tests/more-edits/run)
 benches=(bench/*-scale)
+pythons=("${benches[@]}" tests/fuzz.py)
 for script in "${scripts[@]}"; do
     bash -n "$script" || status=1
 done
@@ -18,7 +19,7 @@ else
 fi
 
 if command -v python3 >/dev/null 2>&1; then
-    python3 -c 'import sys; [compile(open(it).read(), it, "exec") for it in sys.argv[1:]]' "${benches[@]}" || status=1
+    python3 -c 'import sys; [compile(open(it).read(), it, "exec") for it in sys.argv[1:]]' "${pythons[@]}" || status=1
 else
     echo "skipped: python3 isn't installed"
 fi
