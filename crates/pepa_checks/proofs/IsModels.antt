@@ -9,14 +9,16 @@ use Rattle.pepa_lexer.specs.declared.kinds.Token.{Token}
 use Rattle.pepa_lexer.specs.TokenLists.{IsTokens}
 use Rattle.pepa_reader.specs.declared.trees.FileTree.{FileTree}
 use Rattle.pepa_reader.specs.Terminals.{terminals}
-use Rattle.pepa_reader.specs.Trees.{ProcessLineNode, FileNode, file_node_of}
+use Rattle.pepa_reader.specs.Trees.{RateNode, ProcessLineNode, FileNode, file_node_of}
 use Rattle.pepa_reader.specs.FileAnswers.{IsFileTree}
 use Rattle.pepa_model.specs.Expression.{Expression, Shape, IsCompound}
 use Rattle.pepa_model.specs.Opened.{Opened, Opens, moves, height}
 use Rattle.pepa_model.specs.Expanded.{leaves_in}
-use Rattle.pepa_model.specs.PepaModel.{PepaModel, IsModel, IsSoundLeaf, IsCompoundBody, HasTree, StandsForTransition, HasFewLeaves, IsNumbered, IsWithinLimits, IsActionSet, AreUnmixed, IsMixedAt}
+use Rattle.pepa_model.specs.Spelling.{IsWrittenRate, HasWrittenShape}
+use Rattle.pepa_model.specs.PepaModel.{PepaModel, IsModel, IsSpelled, IsSoundLeaf, IsCompoundBody, HasTree, StandsForTransition, HasFewLeaves, IsNumbered, IsWithinLimits, IsActionSet, AreUnmixed, IsMixedAt}
 use Rattle.pepa_model.specs.declared.term.Activity.{Activity}
 use Rattle.pepa_resolver.specs.Parts.{name_at, process_ats, processes_of}
+use Rattle.pepa_resolver.specs.Outcomes.{Good}
 use Rattle.pepa_resolver.specs.Named.{Named, Naming, named, constants_named}
 use Rattle.pepa_resolver.specs.Numbers.{words_in, constants_of, actions_of, naming_of, named_bodies, named_system, IsInRange}
 use Rattle.pepa_resolver.specs.Structure.{CompoundEdge, UnguardedEdge}
@@ -24,7 +26,7 @@ use Rattle.pepa_resolver.specs.Graphs.{AreBelow, IsOrder}
 use Rattle.pepa_resolver.proofs.Findings.{contains_here}
 use Rattle.pepa_resolver.proofs.Bodies.{contains_from_get}
 use Rattle.pepa_resolver.proofs.NumberedFile.{in_range}
-use Rattle.pepa_checks.specs.Outline.{Outline, sets_written, sets_of}
+use Rattle.pepa_checks.specs.Outline.{Outline, sets_written, sets_of, shape_in, definitions_in}
 use Rattle.pepa_checks.specs.Activities.{activity_in, HasActivities, HasNoMixed}
 use Rattle.pepa_checks.specs.Sequences.{HasSequentialParts, AreBodies}
 use Rattle.pepa_checks.specs.Built.{IsBuilt}
@@ -40,6 +42,8 @@ use Rattle.pepa_checks.proofs.OneTree.{one_opening}
 use Rattle.pepa_checks.proofs.Openings.{leaf_opens}
 use Rattle.pepa_checks.proofs.Expansions.{system_expands, body_expands}
 use Rattle.pepa_checks.proofs.BuiltFiles.{sound_built, named_from}
+use Rattle.pepa_checks.proofs.WrittenRates.{activity_written}
+use Rattle.pepa_checks.proofs.SpelledModels.{shape_written, definitions_written, constants_spelled, actions_spelled}
 
 -- ---- limits as bounds
 
@@ -243,6 +247,17 @@ module _ (input : List ℕ) (tokens : List Token) (tree : FileTree) (are : IsTok
       let s = sound_set input tokens file naming are sound.numbered.fine.1 (λ i. refl) number set (subst (λ (l : List (List ℕ)). slice_get l number ≡ Some set) same at) in
       record { ascends = s.ascends; no_tau = s.no_tau; known = s.known }
 
+  written : (node : RateNode) → IsWrittenRate (naming.rate_of node)
+  written node = activity_written tokens name file.rates (map Good sound.values) sound.numbered.rates.lines node
+
+  spelled : IsSpelled m
+  spelled = record {
+    constants = λ c text is. constants_spelled input tokens is_tree.file are is_tree.spelled c text (subst (λ (f : FileNode). slice_get (constants_of name f) c ≡ Some text) is_tree.tree_is is);
+    actions = λ a text some is. actions_spelled input tokens is_tree.file are is_tree.spelled a text some (subst (λ (f : FileNode). slice_get (actions_of name f) a ≡ Some text) is_tree.tree_is is);
+    bodies = λ c definition is. definitions_written naming written compounds sets compounds file.processes c definition (subst (λ (bs : List Named). slice_get (definitions_in compounds sets compounds bs) c ≡ Some definition) sound.numbered.bodies_are is);
+    system = subst (λ (s : Named). HasWrittenShape (shape_in compounds sets s)) (sym sound.numbered.system_is) (shape_written naming written compounds sets file.system);
+  }
+
   pub is_model : IsModel m
   is_model = record {
     bodies = one_each;
@@ -255,5 +270,6 @@ module _ (input : List ℕ) (tokens : List Token) (tree : FileTree) (are : IsTok
     system = system_sound m.constants m.actions activities compounds bodies sound.system sound.one_each (below_all sound.system system_range);
     few_leaves = few_leaves;
     numbered = numbered;
+    spelled = spelled;
     limits = limits;
   }

@@ -39,3 +39,7 @@ pub mod LeafLoops
 pub mod LeafAnswers
 pub mod Judgements
 pub mod OneRefusal
+pub mod WrittenRates
+pub mod TextNames
+pub mod WordIndices
+pub mod SpelledModels

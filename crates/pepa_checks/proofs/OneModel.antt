@@ -3,11 +3,9 @@ use Rattle.std.proofs.Common.{◌≡◌, ℕ, Bool, List, [], ◌∷◌, length,
 use Rattle.std.specs.List.{AllZip}
 use Rattle.pepa_lexer.specs.declared.kinds.Token.{Token}
 use Rattle.pepa_lexer.proofs.OneAnswer.{one_list}
-use Rattle.pepa_reader.specs.declared.trees.FileTree.{FileTree}
-use Rattle.pepa_reader.specs.declared.terminal.Terminal.{Terminal}
+use Rattle.pepa_reader.specs.Grammar.{File, file_spelled}
 use Rattle.pepa_reader.specs.Terminals.{terminals}
-use Rattle.pepa_reader.specs.Trees.{FileNode, file_node_of, file_tree}
-use Rattle.pepa_reader.specs.FileAnswers.{IsFileTree}
+use Rattle.pepa_reader.specs.Trees.{FileNode, file_tree}
 use Rattle.pepa_reader.proofs.ItemLaws.{one_file}
 use Rattle.pepa_model.specs.Expression.{Expression, Definition, Shape}
 use Rattle.pepa_model.specs.PepaModel.{PepaModel}
@@ -18,7 +16,7 @@ use Rattle.pepa_resolver.specs.Graphs.{IsTableOf}
 use Rattle.pepa_resolver.proofs.OneNumbering.{one_table, one_list_of_bodies, one_named_system}
 use Rattle.pepa_checks.specs.Outline.{Outline, outline_of}
 use Rattle.pepa_checks.specs.Activities.{HasActivities, activities_in}
-use Rattle.pepa_checks.specs.CheckedFiles.{Sound, outline, IsModelOf, Reads}
+use Rattle.pepa_checks.specs.CheckedFiles.{Sound, outline, IsModelOf, IsTextOf, Reads}
 use Rattle.pepa_checks.proofs.OneTree.{one_opening}
 
 -- ---- a file without a fault of its structure
@@ -84,14 +82,14 @@ one_file_model input tokens file m n a b =
 
 -- ---- texts
 
-one_node : (spelled : List Terminal) (tree other : FileTree) → IsFileTree spelled tree → IsFileTree spelled other → file_node_of tree ≡ file_node_of other
-one_node spelled tree other a b = a.tree_is ∙ ap file_tree (one_file a.file b.file (sym a.spelled ∙ b.spelled)) ∙ sym b.tree_is
+pub one_text : (input : List ℕ) (m n : PepaModel) → IsTextOf input m → IsTextOf input n → m ≡ n
+one_text input m n a b =
+    let tokens : a.tokens ≡ b.tokens = one_list input a.tokens b.tokens a.are_tokens b.are_tokens in
+    let spelled : terminals input a.tokens ≡ file_spelled b.file = ap (terminals input) tokens ∙ b.spelled in
+    let file : a.file ≡ b.file = one_file a.file b.file (sym a.spelled ∙ spelled) in
+    let model : IsModelOf input a.tokens (file_tree a.file) n =
+    subst (λ (f : File). IsModelOf input a.tokens (file_tree f) n) (sym file) (subst (λ (l : List Token). IsModelOf input l (file_tree b.file) n) (sym tokens) b.is_model) in
+    one_file_model input a.tokens (file_tree a.file) m n a.is_model model
 
 pub one_model : (input : List ℕ) (m n : PepaModel) → Reads input m → Reads input n → m ≡ n
-one_model input m n a b =
-    let tokens : a.tokens ≡ b.tokens = one_list input a.tokens b.tokens a.are_tokens b.are_tokens in
-    let tree : IsFileTree (terminals input a.tokens) b.tree = subst (λ (l : List Token). IsFileTree (terminals input l) b.tree) (sym tokens) b.is_tree in
-    let node : file_node_of a.tree ≡ file_node_of b.tree = one_node (terminals input a.tokens) a.tree b.tree a.is_tree tree in
-    let model : IsModelOf input a.tokens (file_node_of a.tree) n =
-    subst (λ (f : FileNode). IsModelOf input a.tokens f n) (sym node) (subst (λ (l : List Token). IsModelOf input l (file_node_of b.tree) n) (sym tokens) b.is_model) in
-    one_file_model input a.tokens (file_node_of a.tree) m n a.is_model model
+one_model input m n a b = one_text input m n a.text b.text

@@ -5,10 +5,10 @@ use Rattle.pepa_rates.specs.declared.rate.Rate.{Rate}
 use Rattle.pepa_lexer.specs.declared.kinds.Token.{Token}
 use Rattle.pepa_lexer.specs.declared.kinds.Place.{Place}
 use Rattle.pepa_lexer.specs.TokenLists.{IsTokens}
-use Rattle.pepa_reader.specs.declared.trees.FileTree.{FileTree}
+use Rattle.pepa_reader.specs.Grammar.{File, System, item_spelled, file_spelled}
 use Rattle.pepa_reader.specs.Terminals.{terminals}
-use Rattle.pepa_reader.specs.Trees.{FileNode, file_node_of}
-use Rattle.pepa_reader.specs.FileAnswers.{IsFileTree}
+use Rattle.pepa_reader.specs.Trees.{FileNode, file_tree}
+use Rattle.pepa_reader.specs.FileAnswers.{AreShort, most_tokens}
 use Rattle.pepa_model.specs.PepaModel.{PepaModel}
 use Rattle.pepa_resolver.specs.declared.cause.CheckCause.{CheckCause}
 use Rattle.pepa_resolver.specs.declared.cause.CheckCause.TheVariants.{TooMany, MixedChoice}
@@ -81,11 +81,17 @@ Checks input tokens file (Ok m) = IsModelOf input tokens file m
 Checks input tokens file (Err (Refused cause place)) = IsRefused input tokens file cause place
 Checks input tokens file (Err Memory) = Unit {0}
 
--- a text has a model: it has tokens, these are a file, and the file has this model
-pub record Reads (input : List ℕ) (m : PepaModel) : Type 0 where
-  pub short : length input ≤ 2 ^ 20
+-- a text of a model, however long: it has tokens, these are a file, and the file has this model
+pub record IsTextOf (input : List ℕ) (m : PepaModel) : Type 0 where
   pub tokens : List Token
   pub are_tokens : IsTokens input tokens
-  pub tree : FileTree
-  pub is_tree : IsFileTree (terminals input tokens) tree
-  pub is_model : IsModelOf input tokens (file_node_of tree) m
+  pub file : File
+  pub spelled : terminals input tokens ≡ file_spelled file
+  pub is_model : IsModelOf input tokens (file_tree file) m
+
+-- a text of a model that is short enough to be read, as each of its items is
+pub record Reads (input : List ℕ) (m : PepaModel) : Type 0 where
+  pub text : IsTextOf input m
+  pub short : length input ≤ 2 ^ 20
+  pub short_lines : AreShort text.file.lines
+  pub short_system : length (item_spelled (System text.file.system text.file.ending)) ≤ most_tokens

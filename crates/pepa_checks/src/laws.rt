@@ -8,7 +8,7 @@ ghost use Rattle.pepa_reader.specs.Trees.{file_node_of};
 ghost use Rattle.pepa_reader.specs.FileAnswers.{IsFileTree};
 ghost use Rattle.pepa_model.specs.PepaModel.{PepaModel};
 ghost use Rattle.pepa_resolver.specs.declared.cause.CheckCause.{CheckCause};
-ghost use Rattle.pepa_checks.specs.CheckedFiles.{IsRefusedFor, IsModelOf, Reads};
+ghost use Rattle.pepa_checks.specs.CheckedFiles.{IsRefusedFor, IsModelOf, IsTextOf};
 
 /// A law: a file is refused for at most one cause, at one index.
 pub fn one_refusal()
@@ -20,7 +20,7 @@ pub fn refused_or_read()
     ensures { (input : List ℕ) (tokens : List Token) (tree : FileTree) (cause : CheckCause) (i : ℕ) (m : PepaModel) → IsFileTree (terminals input tokens) tree → IsRefusedFor input tokens (file_node_of tree) cause i → ¬ IsModelOf input tokens (file_node_of tree) m }
 {}
 
-/// A law: a text has at most one model.
+/// A law: a text has at most one model, however long it is.
 pub fn one_model()
-    ensures { (input : List ℕ) (m n : PepaModel) → Reads input m → Reads input n → m ≡ n }
+    ensures { (input : List ℕ) (m n : PepaModel) → IsTextOf input m → IsTextOf input n → m ≡ n }
 {}

@@ -6,6 +6,7 @@ pub mod Apparent
 pub mod Verdict
 pub mod Expanded
 pub mod Leaves
+pub mod Spelling
 pub mod PepaModel
 pub mod ModelView
 pub mod Terms

@@ -9,6 +9,7 @@ use Rattle.pepa_model.specs.Derivation.{Transition, IsTransitionList, Among}
 use Rattle.pepa_model.specs.Opened.{Opened, Opens, moves, height}
 use Rattle.pepa_model.specs.Expanded.{Expanded, Expands, leaves_in, height_of}
 use Rattle.pepa_model.specs.Leaves.{each_once, leaves_of, set_numbers, action_numbers}
+use Rattle.pepa_model.specs.Spelling.{IsConstantName, IsActionName, HasWrittenShape, HasWrittenDefinition}
 use Rattle.pepa_model.specs.declared.term.Activity.{Activity}
 
 -- the parts of a model: the names of its constants and of its action types, whose places are their numbers; what each
@@ -136,6 +137,13 @@ pub record IsWithinLimits (m : PepaModel) : Type 0 where
   pub leaves : length m.leaves ≤ 65535
   pub activities : sum_by length m.activities ≤ 65535
 
+-- its names are spelled as those of a text, and its rates can be written; action 0 is `tau`
+pub record IsSpelled (m : PepaModel) : Type 0 where
+  pub constants : (c : ℕ) (name : List ℕ) → slice_get m.constants c ≡ Some name → IsConstantName name
+  pub actions : (a : ℕ) (name : List ℕ) → 0 < a → slice_get m.actions a ≡ Some name → IsActionName name
+  pub bodies : (c : ℕ) (definition : Definition) → slice_get m.bodies c ≡ Some definition → HasWrittenDefinition definition
+  pub system : HasWrittenShape m.system
+
 -- what holds of each model
 pub record IsModel (m : PepaModel) : Type 0 where
   pub bodies : length m.bodies ≡ length m.constants
@@ -148,4 +156,5 @@ pub record IsModel (m : PepaModel) : Type 0 where
   pub system : IsShapeOf m m.system
   pub few_leaves : HasFewLeaves m
   pub numbered : IsNumbered m
+  pub spelled : IsSpelled m
   pub limits : IsWithinLimits m

@@ -123,10 +123,10 @@ fn one_leaf_too_many(rt: HostRuntime) -> Result<(), Fail> {
 
 /// Lines of so many constants, each a choice between the one above and itself. They have 1, 2, 4 and so on activities.
 fn push_doublings(out: &mut String, count: usize) -> Result<(), AllocError> {
-    write!(out, "D0=(a,1).D0;\n")?;
+    write!(out, "P0=(a,1).P0;\n")?;
     for number in 1..count {
         let below = number - 1;
-        write!(out, "D{number}=D{below}+D{below};\n")?;
+        write!(out, "P{number}=P{below}+P{below};\n")?;
     }
     Ok(())
 }
@@ -145,7 +145,7 @@ fn activities_in(model: &Model) -> usize {
 fn most_activities(rt: HostRuntime) -> Result<(), Fail> {
     let mut text = String::new(rt.alloc());
     push_doublings(&mut text, 16)?;
-    write!(text, "D15")?;
+    write!(text, "P15")?;
     let count = match model_of(&rt, rt.alloc(), text.as_bytes()) {
         Ok(model) => activities_in(&model),
         Err(_) => 0,
@@ -158,16 +158,16 @@ fn most_activities(rt: HostRuntime) -> Result<(), Fail> {
 #[test]
 fn activities(rt: HostRuntime) -> Result<(), Fail> {
     let table = [
-        (15, "D14+D14", false),
-        (15, "D14+D14 || D0", false),
-        (15, "D14+D14+D0", true),
-        (15, "D0+D14+D14", true),
-        (15, "D14+D14 || (b,1).D0", true),
-        (16, "D0", false),
-        (16, "D0 || D0/{a}", false),
-        (16, "D0+D0", true),
-        (16, "(b,1).D0", true),
-        (17, "D0", true),
+        (15, "P14+P14", false),
+        (15, "P14+P14 || P0", false),
+        (15, "P14+P14+P0", true),
+        (15, "P0+P14+P14", true),
+        (15, "P14+P14 || (b,1).P0", true),
+        (16, "P0", false),
+        (16, "P0 || P0/{a}", false),
+        (16, "P0+P0", true),
+        (16, "(b,1).P0", true),
+        (17, "P0", true),
     ];
     for (count, system, is_long) in table {
         let mut text = String::new(rt.alloc());
@@ -188,7 +188,7 @@ fn far_too_many_activities(rt: HostRuntime) -> Result<(), Fail> {
     for count in [32, 33, 63, 64, 65, 200, 1024] {
         let mut text = String::new(rt.alloc());
         push_doublings(&mut text, count)?;
-        write!(text, "D0")?;
+        write!(text, "P0")?;
         assert!(rt; is_too_long(&rt, rt.alloc(), &text)?, "{count}");
     }
     Ok(())

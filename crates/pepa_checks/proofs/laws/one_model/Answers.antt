@@ -1,5 +1,5 @@
-use Rattle.pepa_checks.proofs.OneModel.{one_model}
+use Rattle.pepa_checks.proofs.OneModel.{one_text}
 use Rattle.pepa_checks.proofs.laws.one_model.Goals as goal
 
 pub returns : goal.returns
-returns c = one_model
+returns c = one_text
