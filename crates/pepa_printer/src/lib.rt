@@ -14,6 +14,7 @@
 #![tactic(auto)]
 
 mod components;
+pub mod laws;
 mod lines;
 mod parts;
 mod rates;

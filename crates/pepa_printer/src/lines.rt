@@ -1,6 +1,7 @@
 //! The text of lines and of models.
 ghost use Rattle.std.specs.Prelude.{◌≡◌, ◌++◌, ◌<◌, OnOk, IfOk, length};
 ghost use Rattle.pepa_model.specs.Expression.{definition_of};
+ghost use Rattle.pepa_checks.specs.CheckedFiles.{IsTextOf};
 ghost use Rattle.pepa_printer.specs.ComponentText.{name_of};
 ghost use Rattle.pepa_printer.specs.KnownBodies.{IsBodyOf};
 ghost use Rattle.pepa_printer.specs.ModelText.{definition_text, line_text, lines_text, model_text};
@@ -14,7 +15,19 @@ use sim_outside::Bytes;
 use std::alloc::{AllocError, Global};
 
 /// The text of a model: a line for each constant, in the order of the constants, and then its system.
+///
+/// The text reads back: it is a text of this very model. So checking it gives an equal model, wherever it has at most 2^20
+/// bytes and no item of more than 2,048 tokens.
 pub fn print_model(alloc: Global, model: &Model) -> Result<Bytes, AllocError>
+    ensures text { IfOk result (λ text. text ≡ model_text model.now) }
+    ensures reads_back { IfOk result (λ text. IsTextOf text model.now) }
+{
+    model.is_sound();
+    lines_and_system(alloc, model)
+}
+
+/// The lines of the constants, and then the system.
+fn lines_and_system(alloc: Global, model: &Model) -> Result<Bytes, AllocError>
     ensures { IfOk result (λ text. text ≡ model_text model.now) }
 {
     let mut text = Vec::new(alloc);

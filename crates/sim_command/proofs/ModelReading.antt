@@ -1,5 +1,5 @@
 -- How reading a model ends.
-use Rattle.std.proofs.Common.{◌≡◌, ℕ, List, Err, inl, inr, refl, sym, subst}
+use Rattle.std.proofs.Common.{◌≡◌, ℕ, ◌^◌, ◌≤◌, List, length, Ok, Err, inl, inr, refl, sym, subst}
 use Rattle.pepa_lexer.specs.declared.kinds.Token.{Token}
 use Rattle.pepa_lexer.specs.declared.kinds.LexFault.{LexFault}
 use Rattle.pepa_lexer.specs.declared.kinds.LexFault.TheVariants as lexer
@@ -9,11 +9,12 @@ use Rattle.pepa_reader.specs.declared.trees.FileTree.{FileTree}
 use Rattle.pepa_reader.specs.declared.fault.FileFault.{FileFault}
 use Rattle.pepa_reader.specs.declared.fault.FileFault.TheVariants as reader
 use Rattle.pepa_reader.specs.Terminals.{terminals}
-use Rattle.pepa_reader.specs.Trees.{file_node_of}
+use Rattle.pepa_reader.specs.Trees.{FileNode, file_node_of}
 use Rattle.pepa_reader.specs.FileAnswers.{IsFileTree, ReadsFile}
+use Rattle.pepa_model.specs.PepaModel.{PepaModel}
 use Rattle.pepa_resolver.specs.declared.cause.CheckEnd.{CheckEnd}
 use Rattle.pepa_resolver.specs.declared.cause.CheckEnd.TheVariants as ends
-use Rattle.pepa_checks.specs.CheckedFiles.{Checks}
+use Rattle.pepa_checks.specs.CheckedFiles.{IsModelOf, Checks}
 use Rattle.sim_command.specs.declared.model_reading.ModelFault.{ModelFault}
 use Rattle.sim_command.specs.ModelFaults.{told_of_tokens, told_of_file, told_of_check, ReadsModel}
 
@@ -45,6 +46,20 @@ module _ (input : List ℕ) where
       of_check (ends.Refused cause place) h =
           inr (inr (record { tokens = tokens; are_tokens = are; tree = tree; is_tree = is_tree; cause = cause; refused = h; name_is = refl }))
       of_check ends.Memory h = tt
+
+      pub has_model : (m : PepaModel) → length input ≤ 2 ^ 20 → Checks input tokens (file_node_of tree) (Ok m) → ReadsModel input (Ok m)
+      has_model m short is = record {
+        text = record {
+          tokens = tokens;
+          are_tokens = are;
+          file = is_tree.file;
+          spelled = is_tree.spelled;
+          is_model = subst (λ (f : FileNode). IsModelOf input tokens f m) is_tree.tree_is is;
+        };
+        short = short;
+        short_lines = is_tree.short;
+        short_system = is_tree.short_system;
+      }
 
       pub no_model : (why : CheckEnd) (end : ModelFault) → end ≡ told_of_check why → Checks input tokens (file_node_of tree) (Err why) → ReadsModel input (Err end)
       no_model why end told h = subst (λ (f : ModelFault). ReadsModel input (Err f)) (sym told) (of_check why h)

@@ -77,7 +77,7 @@ one_count m i j h k = h.count_is ∙ ap leaves_in (one_expansion m.bodies m.syst
 one_check_text : (m : PepaModel) (x y : List ℕ) → IsCheckText m x → IsCheckText m y → x ≡ y
 one_check_text m x y h k = h.text_is ∙ ap (counts_text (length m.constants) (length m.actions - 1)) (one_count m h.leaves k.leaves h.has_leaves k.has_leaves) ∙ sym k.text_is
 
-one_model_answer : (command : Command) (m : PepaModel) (x y : Answered) → IsModelAnswer command m x → IsModelAnswer command m y → x ≡ y
+pub one_model_answer : (command : Command) (m : PepaModel) (x y : Answered) → IsModelAnswer command m x → IsModelAnswer command m y → x ≡ y
 one_model_answer Steps m x y h k = one_steps_answer m x y h k
 one_model_answer Check m x y h k =
     same_parts x y (h.status_is ∙ sym k.status_is) (one_check_text m x.out y.out h.out_is k.out_is) (h.line_is ∙ sym k.line_is)

@@ -13,7 +13,7 @@ use Rattle.pepa_reader.proofs.ItemLaws.{one_file}
 use Rattle.pepa_reader.proofs.FileLaws as files
 use Rattle.pepa_model.specs.PepaModel.{PepaModel}
 use Rattle.pepa_resolver.specs.declared.cause.CheckCause.{CheckCause}
-use Rattle.pepa_checks.specs.CheckedFiles.{IsRefused, Reads}
+use Rattle.pepa_checks.specs.CheckedFiles.{IsRefused, IsModelOf, Reads}
 use Rattle.pepa_checks.proofs.OneRefusal.{one_refusal, refused_or_read}
 use Rattle.sim_command.specs.declared.fault.FaultName.{FaultName}
 use Rattle.sim_command.specs.declared.model_reading.ModelFault.{ModelFault}
@@ -93,15 +93,16 @@ one_model_fault input here there name other (inr (inr h)) (inr (inl k)) = absurd
 one_model_fault input here there name other (inr (inr h)) (inr (inr k)) = two_of_check input here there name other h k
 
 pub model_or_fault : (input : List ℕ) (m : PepaModel) (place : Place) (name : FaultName) → Reads input m → ¬ IsModelFault input place name
-model_or_fault input m place name r (inl h) = no_fault input r.tokens h.fault r.are_tokens h.is_fault
+model_or_fault input m place name r (inl h) = no_fault input r.text.tokens h.fault r.text.are_tokens h.is_fault
 model_or_fault input m place name r (inr (inl h)) =
-    let tokens = one_list input h.tokens r.tokens h.are_tokens r.are_tokens in
-    file_or_fault input r.tokens h.fault r.tree (subst (λ (l : List Token). IsFileFault input l h.fault) tokens h.is_fault) r.is_tree
+    let tokens = one_list input h.tokens r.text.tokens h.are_tokens r.text.are_tokens in
+    let there : IsFileFault input r.text.tokens h.fault = subst (λ (l : List Token). IsFileFault input l h.fault) tokens h.is_fault in
+    files.no_fault r.text.file there.i h.fault r.short_lines r.short_system (subst (λ (ts : List Terminal). IsFaultAt ts there.i h.fault) r.text.spelled there.is_fault)
 model_or_fault input m place name r (inr (inr h)) =
-    let tokens = one_list input h.tokens r.tokens h.are_tokens r.are_tokens in
-    let h_tree : IsFileTree (terminals input r.tokens) h.tree = subst (λ (l : List Token). IsFileTree (terminals input l) h.tree) tokens h.is_tree in
-    let h_refused : IsRefused input r.tokens (file_node_of h.tree) h.cause place =
+    let tokens = one_list input h.tokens r.text.tokens h.are_tokens r.text.are_tokens in
+    let h_tree : IsFileTree (terminals input r.text.tokens) h.tree = subst (λ (l : List Token). IsFileTree (terminals input l) h.tree) tokens h.is_tree in
+    let h_refused : IsRefused input r.text.tokens (file_node_of h.tree) h.cause place =
     subst (λ (l : List Token). IsRefused input l (file_node_of h.tree) h.cause place) tokens h.refused in
-    let node = one_node (terminals input r.tokens) h.tree r.tree h_tree r.is_tree in
-    let here = subst (λ (f : FileNode). IsRefused input r.tokens f h.cause place) node h_refused in
-    refused_or_read input r.tokens r.tree h.cause here.i m r.is_tree here.refused r.is_model
+    let file : r.text.file ≡ h_tree.file = one_file r.text.file h_tree.file (sym r.text.spelled ∙ h_tree.spelled) in
+    let node : file_tree r.text.file ≡ file_node_of h.tree = ap file_tree file ∙ sym h_tree.tree_is in
+    refused_or_read input r.text.tokens h.tree h.cause h_refused.i m h_tree h_refused.refused (subst (λ (f : FileNode). IsModelOf input r.text.tokens f m) node r.text.is_model)

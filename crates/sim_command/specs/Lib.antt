@@ -12,3 +12,4 @@ pub mod CheckText
 pub mod ModelAnswers
 pub mod Answer
 pub mod TopCall
+pub mod ShortTexts

@@ -19,6 +19,7 @@ use Rattle.sim_command.specs.FaultLine.{fault_text}
 use Rattle.sim_command.specs.TransitionsText.{transitions_text}
 use Rattle.sim_command.specs.Support.{IsSupported}
 use Rattle.pepa_printer.specs.ModelText.{model_text}
+use Rattle.pepa_checks.specs.CheckedFiles.{IsTextOf}
 use Rattle.sim_command.specs.CheckText.{IsCheckText}
 
 -- a status other than 0, with nothing for the output and the fault's line
@@ -81,10 +82,11 @@ pub record IsCheckAnswer (m : PepaModel) (answered : Answered) : Type 0 where
 
 -- ---- print
 
--- the answer of `print` for a model: status 0, and its text
+-- the answer of `print` for a model: status 0, and its text in the normal form, which reads back to the model
 pub record IsPrintAnswer (m : PepaModel) (answered : Answered) : Type 0 where
   pub status_is : answered.status ≡ 0
   pub out_is : answered.out ≡ model_text m
+  pub reads_back : IsTextOf answered.out m
   pub line_is : answered.line ≡ []
 
 -- ---- all commands

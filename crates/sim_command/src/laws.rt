@@ -6,6 +6,8 @@ ghost use Rattle.pepa_checks.specs.CheckedFiles.{Reads};
 ghost use Rattle.sim_command.specs.declared.fault.FaultName.{FaultName};
 ghost use Rattle.sim_command.specs.declared.answered.Answered.{Answered};
 ghost use Rattle.sim_command.specs.declared.words.Command.{Command};
+ghost use Rattle.sim_command.specs.declared.words.Command.TheVariants.{Print};
+ghost use Rattle.sim_command.specs.ShortTexts.{IsShort};
 ghost use Rattle.sim_command.specs.ModelFaults.{IsModelFault};
 ghost use Rattle.sim_command.specs.Answer.{IsAnswer};
 
@@ -19,4 +21,10 @@ pub fn one_outcome()
 /// A command has at most one answer to an input.
 pub fn one_answer()
     ensures { (command : Command) (input : List ℕ) (x y : Answered) → IsAnswer command input x → IsAnswer command input y → x ≡ y }
+{}
+
+/// A printed text that is short enough to be read has the answers of the text that it was printed from, to each command: so
+/// it is printed as the same bytes, and `check` counts the same parts.
+pub fn printed_again()
+    ensures { (command : Command) (input : List ℕ) (printed x y : Answered) → IsAnswer Print input printed → printed.status ≡ 0 → IsShort printed.out → IsAnswer command input x → IsAnswer command printed.out y → y ≡ x }
 {}
