@@ -15,3 +15,4 @@ pub mod Answers
 pub mod Endings
 pub mod OneAnswer
 pub mod EitherOrder
+pub mod PrintedAgain
