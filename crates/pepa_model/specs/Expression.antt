@@ -14,7 +14,7 @@ pub data Expression : Type 0 where
   Prefixed : ℕ → Rate → Expression → Expression
   Chosen : Expression → Expression → Expression
 
--- a system in some state
+-- a sequential component as a state, which is what its transitions lead to
 pub data WordTerm : Type 0 where
   LeafOf : Expression → WordTerm
 

@@ -1,10 +1,7 @@
--- What the terms and steps of the program stand for.
-use Rattle.std.specs.Prelude.{◌≡◌, ◌==◌, ℕ, ◌+◌, ◌<◌, Some, slice_get, length, if◌then◌else◌}
-use Rattle.pepa_model.specs.Expression.{Expression, WordTerm, LeafOf}
-use Rattle.pepa_model.specs.Derivation.{Transition}
+-- The terms of the program without their pointers.
+use Rattle.std.specs.Prelude.{◌==◌, ℕ, ◌+◌, ◌<◌, length, if◌then◌else◌}
 use Rattle.pepa_model.specs.PepaModel.{PepaModel}
 use Rattle.pepa_model.specs.declared.term.Term.{Term, Leaf, Coop', Hide'}
-use Rattle.pepa_model.specs.declared.term.Step.{Step}
 
 -- a term without pointers: a leaf's number, two terms that cooperate over the set of this number, or a term that hides it
 pub data TermNode : Type 0 where
@@ -18,10 +15,6 @@ term_of (Leaf number) = LeafNode number
 term_of (Coop' p x q y set) = CoopNode (term_of x) (term_of y) set
 term_of (Hide' p x set) = HideNode (term_of x) set
 
--- the term is one leaf
-abbrev pub IsLeaf : Term → Type 0
-IsLeaf term = (number : ℕ) × (term ≡ Leaf number)
-
 -- the leaves and sets are the model's
 abbrev pub IsNodeOf : PepaModel → TermNode → Type 0
 IsNodeOf m (LeafNode number) = number < length m.leaves
@@ -31,15 +24,6 @@ IsNodeOf m (HideNode x set) = IsNodeOf m x × (set < length m.sets)
 abbrev pub IsTermOf : PepaModel → Term → Type 0
 IsTermOf m term = IsNodeOf m (term_of term)
 
--- a leaf stands for its expression; other terms stand for no word term until cooperations have rules
-abbrev pub NodeStandsFor : PepaModel → TermNode → WordTerm → Type 0
-NodeStandsFor m (LeafNode number) word = (e : Expression) × (slice_get m.leaves number ≡ Some e) × (word ≡ LeafOf e)
-NodeStandsFor m (CoopNode x y set) word = ⊥
-NodeStandsFor m (HideNode x set) word = ⊥
-
-abbrev pub StandsFor : PepaModel → Term → WordTerm → Type 0
-StandsFor m term word = NodeStandsFor m (term_of term) word
-
 -- how many leaves of the term are this one
 abbrev pub leaf_count_in : TermNode → ℕ → ℕ
 leaf_count_in (LeafNode number) leaf = if number == leaf then 1 else 0
@@ -48,10 +32,3 @@ leaf_count_in (HideNode x set) leaf = leaf_count_in x leaf
 
 abbrev pub leaf_count_of : Term → ℕ → ℕ
 leaf_count_of term leaf = leaf_count_in (term_of term) leaf
-
--- the step is this transition, and its target stands for the term that follows
-pub record StepStandsFor (m : PepaModel) (step : Step) (transition : Transition) : Type 0 where
-  pub action : step.action ≡ transition.action
-  pub signals : step.signals ≡ transition.signals
-  pub rate : step.rate ≡ transition.rate
-  pub target : StandsFor m step.target transition.target

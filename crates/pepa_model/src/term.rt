@@ -1,6 +1,6 @@
 ghost use Rattle.std.specs.Prelude.{◌≡◌, ◌<◌, ◌^◌, IfOk};
 ghost use Rattle.pepa_model.specs.Expression.{Expression, Sequentially, expression_of, definition_of};
-ghost use Rattle.pepa_model.specs.Terms.{IsLeaf, term_of, leaf_count_of};
+ghost use Rattle.pepa_model.specs.Terms.{term_of, leaf_count_of};
 
 use pepa_rates::Rate;
 use sqlite_items::Items;
@@ -64,17 +64,6 @@ impl Body {
 }
 
 impl Term {
-    /// The number of a term that is one leaf.
-    pub fn leaf(&self) -> u32
-        requires { IsLeaf self.now }
-        ensures { self.now ≡ Term.Leaf result }
-    {
-        match self {
-            Term::Leaf(leaf) => *leaf,
-            Term::Coop(..) | Term::Hide(..) => unreachable!(),
-        }
-    }
-
     /// An equal term.
     pub fn copy(&self, alloc: Global) -> Result<Term, AllocError>
         ensures { IfOk result (λ term. term_of term ≡ term_of self.now) }

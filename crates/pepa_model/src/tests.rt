@@ -17,7 +17,6 @@ fn names_are_their_bytes(rt: HostRuntime) -> Result<(), Fail> {
 #[test]
 fn a_term_has_its_leaf(rt: HostRuntime) -> Result<(), Fail> {
     let term = Term::Leaf(3).copy(rt.alloc())?;
-    assert_eq!(rt; term.leaf(), 3);
     assert_eq!(rt; (leaf_count(&term, 3), leaf_count(&term, 2)), (1, 0));
     Ok(())
 }

@@ -4,7 +4,7 @@ use Rattle.std.specs.List.{AllZip}
 use Rattle.pepa_model.specs.Expression.{WordTerm}
 use Rattle.pepa_model.specs.Derivation.{Transition}
 use Rattle.pepa_model.specs.PepaModel.{PepaModel}
-use Rattle.pepa_model.specs.Terms.{StandsFor, StepStandsFor}
+use Rattle.sim_command.specs.LeafTerms.{StandsFor, StepStandsFor}
 use Rattle.pepa_model.specs.declared.term.Term.{Term, Leaf, Coop', Hide'}
 use Rattle.pepa_model.specs.declared.term.Step.{Step}
 use Rattle.pepa_checks.specs.CheckedFiles.{Reads}

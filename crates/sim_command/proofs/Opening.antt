@@ -4,7 +4,7 @@ use Rattle.pepa_model.specs.Expression.{Expression, Const, Prefixed, Chosen, Def
 use Rattle.pepa_model.specs.Opened.{Opened, OpenPrefix, OpenChoice, OpenConst, Opens, height}
 use Rattle.pepa_model.specs.Expression.{WordTerm, LeafOf}
 use Rattle.pepa_model.specs.PepaModel.{PepaModel, IsModel}
-use Rattle.pepa_model.specs.Terms.{StandsFor}
+use Rattle.sim_command.specs.LeafTerms.{StandsFor}
 use Rattle.pepa_model.specs.declared.term.Term.{Term, Leaf}
 use Rattle.sim_command.specs.ApparentAnswers.{CanOpen}
 

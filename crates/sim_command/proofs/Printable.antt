@@ -7,7 +7,8 @@ use Rattle.pepa_model.specs.Expression.{Const, WordTerm, LeafOf}
 use Rattle.pepa_model.specs.Derivation.{Transition}
 use Rattle.pepa_model.specs.Opened.{moves}
 use Rattle.pepa_model.specs.PepaModel.{PepaModel, IsModel, StandsForTransition}
-use Rattle.pepa_model.specs.Terms.{IsLeaf, IsTermOf, StandsFor, StepStandsFor}
+use Rattle.pepa_model.specs.Terms.{IsTermOf}
+use Rattle.sim_command.specs.LeafTerms.{IsLeaf, StandsFor, StepStandsFor}
 use Rattle.pepa_model.specs.declared.term.Activity.{Activity}
 use Rattle.pepa_model.specs.declared.term.Step.{Step}
 use Rattle.pepa_model.specs.declared.term.Term.{Term, Leaf, Coop', Hide'}

@@ -8,7 +8,7 @@ use Rattle.pepa_model.specs.Derivation.{Transition}
 use Rattle.pepa_model.specs.Opened.{Opened, OpenPrefix, OpenChoice, OpenConst, Opens, parts, moves}
 use Rattle.pepa_model.specs.Verdict.{IsFinePart, OfRates, TermFault, IsWithoutFault, IsVerdict}
 use Rattle.pepa_model.specs.PepaModel.{PepaModel, IsModel, StandsForTransition, AreTransitionsOf}
-use Rattle.pepa_model.specs.Terms.{StepStandsFor}
+use Rattle.sim_command.specs.LeafTerms.{StepStandsFor}
 use Rattle.pepa_model.specs.declared.term.Activity.{Activity}
 use Rattle.pepa_model.specs.declared.term.Step.{Step}
 use Rattle.sim_command.specs.ActionRates.{HasFineRates, AnswersRates}

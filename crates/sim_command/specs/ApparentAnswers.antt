@@ -7,7 +7,7 @@ use Rattle.pepa_model.specs.Opened.{Opened, Opens, height}
 use Rattle.pepa_model.specs.Apparent.{Apparent, NoRate, Rated, apparent_rate, together, IsFine, HasFault}
 use Rattle.pepa_model.specs.Verdict.{IsFineFor, IsFaultFor, IsApparentRate, IsApparentFault}
 use Rattle.pepa_model.specs.PepaModel.{PepaModel}
-use Rattle.pepa_model.specs.Terms.{StandsFor}
+use Rattle.sim_command.specs.LeafTerms.{StandsFor}
 use Rattle.pepa_model.specs.declared.term.Term.{Term}
 
 abbrev pub apparent_of : Option Rate → Apparent

@@ -1,3 +1,4 @@
+pub mod LeafTerms
 pub mod ApparentAnswers
 pub mod ActionRates
 pub mod StepsAnswers

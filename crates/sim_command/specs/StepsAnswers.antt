@@ -6,7 +6,7 @@ use Rattle.pepa_model.specs.Expression.{WordTerm, Definition}
 use Rattle.pepa_model.specs.Derivation.{Transition, IsTransitionList}
 use Rattle.pepa_model.specs.Verdict.{TermFault, OfRates, OfLength, IsWithoutFault, IsVerdict}
 use Rattle.pepa_model.specs.PepaModel.{PepaModel}
-use Rattle.pepa_model.specs.Terms.{StandsFor, StepStandsFor}
+use Rattle.sim_command.specs.LeafTerms.{StandsFor, StepStandsFor}
 use Rattle.pepa_model.specs.declared.term.Term.{Term, Leaf}
 use Rattle.pepa_model.specs.declared.term.Step.{Step}
 use Rattle.pepa_model.specs.declared.term.Activity.{Activity}

@@ -3,7 +3,8 @@ use Rattle.std.specs.Prelude.{◌≡◌, ℕ, ◌<◌, Option, Some, None, List,
 use Rattle.std.specs.List.{All, flat_map}
 use Rattle.pepa_model.specs.Expression.{Expression}
 use Rattle.pepa_model.specs.PepaModel.{PepaModel}
-use Rattle.pepa_model.specs.Terms.{IsLeaf, IsTermOf}
+use Rattle.pepa_model.specs.Terms.{IsTermOf}
+use Rattle.sim_command.specs.LeafTerms.{IsLeaf}
 use Rattle.pepa_model.specs.declared.term.Term.{Term, Leaf}
 use Rattle.pepa_model.specs.declared.term.Step.{Step}
 use Rattle.pepa_printer.specs.ComponentText.{name_of, rate_text, expression_text}

@@ -2,9 +2,11 @@
 ghost use Rattle.std.specs.Prelude.{◌≡◌, ◌<◌, Result, Option};
 ghost use Rattle.pepa_model.specs.Expression.{expression_of};
 ghost use Rattle.pepa_model.specs.Opened.{Opened, Opens};
-ghost use Rattle.pepa_model.specs.Terms.{IsLeaf, IsTermOf};
+ghost use Rattle.pepa_model.specs.Terms.{IsTermOf};
+ghost use Rattle.sim_command.specs.LeafTerms.{IsLeaf};
 ghost use Rattle.sim_command.specs.ApparentAnswers.{AnswersApparent, AnswersOpened, CanOpen, IsTogether};
 
+use crate::leaf_term::leaf_of;
 use pepa_model::{MAX_HEIGHT, Model, Sequential, Term};
 use pepa_rates::{Rate, RateFault};
 
@@ -18,7 +20,7 @@ pub fn apparent(model: &Model, term: &Term, action: u32) -> Result<Option<Rate>,
     ensures { AnswersApparent model.now term.now action result }
 {
     model.is_sound();
-    component_rate(model, model.leaf(term.leaf()), action, MAX_HEIGHT)
+    component_rate(model, model.leaf(leaf_of(term)), action, MAX_HEIGHT)
 }
 
 // The apparent rate of a component that opens into a tree of at most this height.

@@ -10,6 +10,7 @@ mod fault;
 mod fault_lines;
 pub mod laws;
 mod leaf_lookup;
+mod leaf_term;
 mod line;
 mod model_reading;
 mod model_steps;

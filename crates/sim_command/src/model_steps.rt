@@ -1,6 +1,6 @@
 //! The answer of `steps` for a model.
 ghost use Rattle.std.specs.Prelude.{◌≡◌, IfOk};
-ghost use Rattle.pepa_model.specs.Terms.{StandsFor};
+ghost use Rattle.sim_command.specs.LeafTerms.{StandsFor};
 ghost use Rattle.sim_command.specs.Support.{IsSupported};
 ghost use Rattle.sim_command.specs.ModelAnswers.{IsStepsAnswer, first_state, stop_of};
 

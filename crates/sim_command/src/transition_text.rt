@@ -1,7 +1,9 @@
 ghost use Rattle.std.specs.Prelude.{◌≡◌, ◌++◌, IfOk, OnOk};
-ghost use Rattle.pepa_model.specs.Terms.{IsLeaf, IsTermOf};
+ghost use Rattle.pepa_model.specs.Terms.{IsTermOf};
+ghost use Rattle.sim_command.specs.LeafTerms.{IsLeaf};
 ghost use Rattle.sim_command.specs.StepsText.{CanPrint, CanPrintStep, step_text, steps_text_of, term_text};
 
+use crate::leaf_term::leaf_of;
 use pepa_model::{Model, Step, Term};
 use pepa_printer::{push_action, push_expression, push_rate, push_text};
 use sim_outside::Bytes;
@@ -39,5 +41,5 @@ fn push_term(alloc: Global, to: &mut Vec<u8>, model: &Model, term: &Term) -> Res
     ensures { OnOk result (to.new.items ≡ to.old.items ++ term_text model.now term.now) }
 {
     model.is_sound();
-    push_expression(alloc, to, model, model.leaf(term.leaf()))
+    push_expression(alloc, to, model, model.leaf(leaf_of(term)))
 }

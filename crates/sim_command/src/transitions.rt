@@ -1,10 +1,12 @@
 //! The transitions of a term, and the verdict on it.
 ghost use Rattle.std.specs.Prelude.{◌≡◌, ◌<◌, IfOk, map, length, slice_get};
 ghost use Rattle.pepa_model.specs.Expression.{Expression, LeafOf};
-ghost use Rattle.pepa_model.specs.Terms.{IsLeaf, IsTermOf};
+ghost use Rattle.pepa_model.specs.Terms.{IsTermOf};
+ghost use Rattle.sim_command.specs.LeafTerms.{IsLeaf};
 ghost use Rattle.sim_command.specs.StepsAnswers.{AnswersSteps, IsVerdictAnswer, IsSameFault, step_of};
 
 use crate::action_rates::{RatesEnd, component_rates};
+use crate::leaf_term::leaf_of;
 use pepa_model::{Activity, MAX_HEIGHT, Model, Step, StepList, Term};
 use pepa_rates::RateFault;
 use std::alloc::{AllocError, Global};
@@ -47,7 +49,7 @@ pub fn steps(alloc: Global, model: &Model, term: &Term) -> Result<StepList, Step
     ensures { AnswersSteps model.now term.now result }
 {
     model.is_sound();
-    let leaf = term.leaf();
+    let leaf = leaf_of(term);
     judge(alloc, model, leaf)?;
     Ok(leaf_steps(alloc, model.activities(leaf))?)
 }

@@ -1,5 +1,5 @@
 use Rattle.std.proofs.Common.{subst, Ok}
-use Rattle.pepa_model.specs.Terms.{StandsFor}
+use Rattle.sim_command.specs.LeafTerms.{StandsFor}
 use Rattle.pepa_model.specs.declared.term.Term.{Term}
 use Rattle.sim_command.proofs.Verdicts.{steps_of, answers}
 use Rattle.sim_command.proofs.transitions.steps.Goals as goal
