@@ -1,0 +1,6 @@
+pub mod Opening
+pub mod Faults
+pub mod ApparentRates
+pub mod ComponentRates
+pub mod RateMaps
+pub mod EitherOrder

@@ -1,0 +1,69 @@
+-- Apparent rates by action type.
+use Rattle.std.specs.Prelude.{◌≡◌, ◌≢◌, ◌==◌, ℕ, ◌<◌, if◌then◌else◌, List, Result, Ok, Err}
+use Rattle.std.specs.Ordering.{nat_cmp}
+use Rattle.std.specs.BTreeMap.{BTreeMap, is_at}
+use Rattle.std.specs.Map.{lookup}
+use Rattle.std.specs.List.{AllByRecursion}
+use Rattle.pepa_rates.specs.declared.rate.Rate.{Rate}
+use Rattle.pepa_rates.specs.declared.rate.RateFault.{RateFault}
+use Rattle.pepa_model.specs.Opened.{Opened, parts}
+use Rattle.pepa_model.specs.Apparent.{Apparent, NoRate, Rated, apparent_rate, together, IsFine, HasFault}
+use Rattle.pepa_model.specs.Verdict.{HasRateFault, IsFirstFault}
+use Rattle.pepa_steps.specs.ApparentAnswers.{apparent_of}
+use Rattle.pepa_steps.specs.declared.action_rates.RatesEnd.{RatesEnd}
+use Rattle.pepa_steps.specs.declared.action_rates.RatesEnd.TheVariants.{Fault, Memory}
+
+-- the rate that the entries have for an action
+abbrev pub rate_in : List (ℕ × Rate) → ℕ → Apparent
+rate_in entries action = apparent_of (lookup (is_at (nat_cmp action)) entries)
+
+-- each rate is in range
+abbrev pub AllFine : List (ℕ × Rate) → Type 0
+AllFine entries = (action : ℕ) → IsFine (rate_in entries action)
+
+-- new is old with the rate added for the action
+pub record AddsRate (old new : List (ℕ × Rate)) (action : ℕ) (rate : Rate) : Type 0 where
+  pub here : rate_in new action ≡ together (rate_in old action) (Rated rate)
+  pub elsewhere : (other : ℕ) → other ≢ action → rate_in new other ≡ rate_in old other
+  pub fine : IsFine (rate_in new action)
+
+-- the sum of two apparent rates has a fault for an action, and none for a lesser one
+pub record IsLeastFault (rate : ℕ → Apparent) (fault : RateFault) : Type 0 where
+  pub action : ℕ
+  pub faulty : HasFault (rate action) fault
+  pub least : (other : ℕ) → other < action → IsFine (rate other)
+
+-- the rates of a choice, action by action
+abbrev pub rates_of_choice : List (ℕ × Rate) → List (ℕ × Rate) → ℕ → Apparent
+rates_of_choice left right action = together (rate_in left action) (rate_in right action)
+
+-- a part whose apparent rates are in order
+abbrev pub HasFineRates : Opened → Type 0
+HasFineRates part = (action : ℕ) → 0 < action → IsFine (apparent_rate part action)
+
+-- the entries are the apparent rates of the component, for actions from 1 up
+pub record AreRatesOf (entries : List (ℕ × Rate)) (whole : Opened) : Type 0 where
+  pub each : (action : ℕ) → 0 < action → rate_in entries action ≡ apparent_rate whole action
+  pub no_tau : rate_in entries 0 ≡ NoRate
+
+-- the rates of a component without a fault, else its first fault
+abbrev pub AnswersRates : Opened → Result (BTreeMap ℕ Rate) RatesEnd → Type 0
+AnswersRates whole (Ok rates) = AllByRecursion HasFineRates (parts whole) × AreRatesOf rates.entries whole
+AnswersRates whole (Err (Fault fault)) = IsFirstFault HasFineRates HasRateFault (parts whole) fault
+AnswersRates whole (Err Memory) = Unit {0}
+
+-- the rates of a prefix: its own, unless it is `tau`
+abbrev pub IsRatesOfPrefix : ℕ → Rate → Result (BTreeMap ℕ Rate) RatesEnd → Type 0
+IsRatesOfPrefix action rate (Ok rates) = AllFine rates.entries × ((other : ℕ) → 0 < other → rate_in rates.entries other ≡ (if action == other then Rated rate else NoRate)) × (rate_in rates.entries 0 ≡ NoRate)
+IsRatesOfPrefix action rate (Err (Fault fault)) = ⊥
+IsRatesOfPrefix action rate (Err Memory) = Unit {0}
+
+abbrev pub AnswersAddition : List (ℕ × Rate) → List (ℕ × Rate) → ℕ → Rate → Result (Unit {0}) RatesEnd → Type 0
+AnswersAddition old new action rate (Ok _) = AddsRate old new action rate
+AnswersAddition old new action rate (Err (Fault fault)) = HasFault (together (rate_in old action) (Rated rate)) fault
+AnswersAddition old new action rate (Err Memory) = Unit {0}
+
+abbrev pub AnswersChoice : List (ℕ × Rate) → List (ℕ × Rate) → Result (BTreeMap ℕ Rate) RatesEnd → Type 0
+AnswersChoice left right (Ok rates) = AllFine rates.entries × ((action : ℕ) → rate_in rates.entries action ≡ rates_of_choice left right action)
+AnswersChoice left right (Err (Fault fault)) = IsLeastFault (rates_of_choice left right) fault
+AnswersChoice left right (Err Memory) = Unit {0}

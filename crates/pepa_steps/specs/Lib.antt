@@ -1,0 +1,13 @@
+pub mod States
+pub mod OpenStates
+pub mod Rules
+pub mod StateVerdict
+pub mod ApparentAnswers
+pub mod ActionRates
+pub mod StateRates
+pub mod StepNodes
+pub mod StepsAnswers
+pub mod PartAnswers
+pub mod JointSteps
+pub mod LeafSteps
+pub mod EndNames

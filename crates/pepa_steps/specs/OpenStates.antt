@@ -1,0 +1,102 @@
+-- States with the constants of their sequential components opened, and what is computed along these trees.
+use Rattle.std.specs.Prelude.{◌≡◌, ◌==◌, ℕ, ◌&&◌, not, if◌then◌else◌, bit_or, List, [], ◌∷◌, ◌++◌, map, filter, flat_map}
+use Rattle.pepa_rates.specs.declared.rate.Rate.{Rate}
+use Rattle.pepa_rates.specs.declared.rate.Rate.TheVariants.{Active, Passive}
+use Rattle.pepa_rates.specs.Share.{least_of, share_of}
+use Rattle.pepa_model.specs.Expression.{Expression, Const, Prefixed, Chosen, WordTerm, LeafOf, Definition}
+use Rattle.pepa_model.specs.Derivation.{Transition}
+use Rattle.pepa_model.specs.Opened.{Opened, OpenPrefix, OpenChoice, OpenConst, Opens, parts, moves}
+use Rattle.pepa_model.specs.Apparent.{Apparent, NoRate, Rated, Undefined, together, apparent_rate}
+use Rattle.pepa_steps.specs.States.{State, AtLeaf, Cooperating, Hiding, has, StateTransition, state_transition}
+
+pub data OpenState : Type 0 where
+  LeafOpen : Opened → OpenState
+  CoopOpen : OpenState → OpenState → List ℕ → OpenState
+  HideOpen : OpenState → List ℕ → OpenState
+
+-- the state opens into the tree
+abbrev pub OpensState : List Definition → State → OpenState → Type 0
+OpensState definitions (AtLeaf e) (LeafOpen o) = Opens definitions e o
+OpensState definitions (Cooperating p q set) (CoopOpen s t other) = OpensState definitions p s × OpensState definitions q t × (other ≡ set)
+OpensState definitions (Hiding p set) (HideOpen s other) = OpensState definitions p s × (other ≡ set)
+OpensState definitions _ _ = ⊥
+
+-- the parts of a state in post-order: the left side, the right side, the whole; what hides behind what it hides. The parts of a
+-- leaf are those of its component
+abbrev pub parts_in : OpenState → List OpenState
+parts_in (LeafOpen o) = map LeafOpen (parts o)
+parts_in (CoopOpen s t set) = (parts_in s ++ parts_in t) ++ CoopOpen s t set ∷ []
+parts_in (HideOpen s set) = parts_in s ++ HideOpen s set ∷ []
+
+-- ---- apparent rates (chapter 3)
+
+-- for a type in the set of a cooperation, the lesser of both sides' rates, or none if one side has none
+abbrev pub jointly : Apparent → Apparent → Apparent
+jointly NoRate y = NoRate
+jointly (Rated r) NoRate = NoRate
+jointly (Rated r) (Rated s) = Rated (least_of r s)
+jointly (Rated r) Undefined = Undefined
+jointly Undefined NoRate = NoRate
+jointly Undefined (Rated s) = Undefined
+jointly Undefined Undefined = Undefined
+
+-- for a type outside the set it is that of a choice; a hidden type has none
+abbrev pub apparent_in : OpenState → ℕ → Apparent
+apparent_in (LeafOpen o) a = apparent_rate o a
+apparent_in (CoopOpen s t set) a = if has set a then jointly (apparent_in s a) (apparent_in t a) else together (apparent_in s a) (apparent_in t a)
+apparent_in (HideOpen s set) a = if has set a then NoRate else apparent_in s a
+
+-- ---- transitions
+
+-- what the transition of a leaf leads to
+abbrev pub follows : WordTerm → State
+follows (LeafOf e) = AtLeaf e
+
+abbrev pub leaf_move : Transition → StateTransition
+leaf_move t = state_transition t.action t.signals t.rate (follows t.target)
+
+-- one side moves alone
+abbrev pub left_move : State → List ℕ → StateTransition → StateTransition
+left_move q set u = state_transition u.action u.signals u.rate (Cooperating u.target q set)
+
+abbrev pub right_move : State → List ℕ → StateTransition → StateTransition
+right_move p set v = state_transition v.action v.signals v.rate (Cooperating p v.target set)
+
+-- both sides move together, where these are their apparent rates of the action; the signals are united
+abbrev pub joint_move : List ℕ → Rate → Rate → StateTransition → StateTransition → StateTransition
+joint_move set ra rb u v = state_transition u.action (bit_or u.signals v.signals) (share_of u.rate ra v.rate rb) (Cooperating u.target v.target set)
+
+-- a hidden type becomes `tau`, whose number is 0
+abbrev pub hidden_move : List ℕ → StateTransition → StateTransition
+hidden_move set u = state_transition (if has set u.action then 0 else u.action) u.signals u.rate (Hiding u.target set)
+
+-- the expression that a component opened from, and the state
+abbrev pub closed : Opened → Expression
+closed (OpenPrefix a r next) = Prefixed a r next
+closed (OpenChoice p q) = Chosen (closed p) (closed q)
+closed (OpenConst c p) = Const c
+
+abbrev pub closed_state : OpenState → State
+closed_state (LeafOpen o) = AtLeaf (closed o)
+closed_state (CoopOpen s t set) = Cooperating (closed_state s) (closed_state t) set
+closed_state (HideOpen s set) = Hiding (closed_state s) set
+
+-- a rate; where there is none it doesn't matter what stands for it
+abbrev pub rate_of : Apparent → Rate
+rate_of NoRate = Passive (record { num = 1; den = 1 })
+rate_of (Rated r) = r
+rate_of Undefined = Passive (record { num = 1; den = 1 })
+
+-- those of both sides together, in the order of the left one, and then of the right one
+abbrev pub joint_moves : List ℕ → (ℕ → Rate) → (ℕ → Rate) → List StateTransition → List StateTransition → List StateTransition
+joint_moves set ra rb us vs =
+    flat_map (λ u. map (joint_move set (ra u.action) (rb u.action) u) (filter (λ v. u.action == v.action) vs)) (filter (λ u. has set u.action) us)
+
+-- the transitions of a state: of a cooperation first those of the left side alone, then of the right side alone, then of both
+abbrev pub moves_in : OpenState → List StateTransition
+moves_in (LeafOpen o) = map leaf_move (moves o)
+moves_in (CoopOpen s t set) =
+    (map (left_move (closed_state t) set) (filter (λ u. not (has set u.action)) (moves_in s))
+    ++ map (right_move (closed_state s) set) (filter (λ v. not (has set v.action)) (moves_in t)))
+    ++ joint_moves set (λ a. rate_of (apparent_in s a)) (λ a. rate_of (apparent_in t a)) (moves_in s) (moves_in t)
+moves_in (HideOpen s set) = map (hidden_move set) (moves_in s)

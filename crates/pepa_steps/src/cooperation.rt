@@ -1,0 +1,102 @@
+//! Cooperations and hidings, from what is found of their parts.
+ghost use Rattle.std.specs.Prelude.{◌≡◌, ◌≤◌, length};
+ghost use Rattle.pepa_model.specs.Terms.{term_of};
+ghost use Rattle.pepa_steps.specs.ActionRates.{AllFine};
+ghost use Rattle.pepa_steps.specs.StateRates.{rates_of_cooperation, rates_of_hiding};
+ghost use Rattle.pepa_steps.specs.StepNodes.{step_nodes, alone, AreRated};
+ghost use Rattle.pepa_steps.specs.PartAnswers.{AnswersBy, AreNodesInRange, cooperation_nodes, hiding_nodes};
+
+use crate::parts::Part;
+use crate::sets::is_in;
+use crate::state_rates::{cooperation_rates, hiding_rates};
+use crate::step_lists::{hidden_steps, joint_count, push_joint, push_left, push_right};
+use crate::transitions::{StepFault, StepsEnd};
+use pepa_model::{Step, StepList, Term};
+use std::alloc::Global;
+
+/// The most derivations that a part may have.
+const MOST_STEPS: u64 = 65_535;
+
+/// What two systems do that cooperate over the set of this number, which has these types.
+pub(crate) fn cooperation_part(
+    alloc: Global,
+    types: &[u32],
+    set: u32,
+    left: &Term,
+    right: &Term,
+    left_part: &Part,
+    right_part: &Part,
+) -> Result<Part, StepsEnd>
+    requires left_fine { AllFine left_part.now.rates.entries }
+    requires right_fine { AllFine right_part.now.rates.entries }
+    requires left_rated { AreRated types.now left_part.now.rates.entries (step_nodes left_part.now.steps) }
+    requires right_rated { AreRated types.now right_part.now.rates.entries (step_nodes right_part.now.steps) }
+    requires left_short { length left_part.now.steps ≤ 65535 }
+    requires right_short { length right_part.now.steps ≤ 65535 }
+    requires left_range { AreNodesInRange (step_nodes left_part.now.steps) }
+    requires right_range { AreNodesInRange (step_nodes right_part.now.steps) }
+    ensures { AnswersBy (rates_of_cooperation types.now left_part.now.rates.entries right_part.now.rates.entries) (cooperation_nodes types.now set (term_of left.now) (term_of right.now) left_part.now right_part.now) result }
+{
+    let rates = cooperation_rates(alloc, types, &left_part.rates, &right_part.rates)?;
+    let alone = alone_count(types, left_part.steps.as_slice())
+        + alone_count(types, right_part.steps.as_slice());
+    let joint = joint_count(
+        alloc,
+        types,
+        left_part.steps.as_slice(),
+        right_part.steps.as_slice(),
+    )?;
+    if alone + joint > MOST_STEPS {
+        return Err(StepsEnd::Fault(StepFault::ListTooLong));
+    }
+    let mut steps = StepList::new(alloc);
+    push_left(
+        alloc,
+        &mut steps,
+        left_part.steps.as_slice(),
+        right,
+        types,
+        set,
+    )?;
+    push_right(
+        alloc,
+        &mut steps,
+        right_part.steps.as_slice(),
+        left,
+        types,
+        set,
+    )?;
+    push_joint(alloc, &mut steps, left_part, right_part, types, set)?;
+    Ok(Part { steps, rates })
+}
+
+/// How many steps are by types outside the set.
+fn alone_count(types: &[u32], steps: &[Step]) -> u64
+    requires { length steps.now ≤ 65535 }
+    ensures { result ≡ length (alone types.now (step_nodes steps.now)) }
+{
+    let mut count: u64 = 0;
+    for step in steps {
+        if !is_in(types, step.action) {
+            count += 1;
+        }
+    }
+    count
+}
+
+/// What a system does that hides the set of this number, which has these types.
+pub(crate) fn hiding_part(
+    alloc: Global,
+    types: &[u32],
+    set: u32,
+    inner: &Part,
+) -> Result<Part, StepsEnd>
+    requires fine { AllFine inner.now.rates.entries }
+    requires short { length inner.now.steps ≤ 65535 }
+    requires in_range { AreNodesInRange (step_nodes inner.now.steps) }
+    ensures { AnswersBy (rates_of_hiding types.now inner.now.rates.entries) (hiding_nodes types.now set inner.now) result }
+{
+    let rates = hiding_rates(alloc, types, &inner.rates)?;
+    let steps = hidden_steps(alloc, inner.steps.as_slice(), types, set)?;
+    Ok(Part { steps, rates })
+}

@@ -1,5 +1,0 @@
-use Rattle.sim_command.proofs.RateMaps.{LoopKeeps}
-use Rattle.sim_command.proofs.action_rates.add_rates.Given as goal
-
-abbrev pub invariant-loop-action : goal.invariant-loop-action
-invariant-loop-action l = LoopKeeps l.fn.first.entries l.fn.others.entries l.all.entries l.action-iterator
