@@ -16,7 +16,7 @@ fraction_text q = if q.den == 1 then decimal q.num else decimal q.num ++ codes "
 abbrev pub is_one : Fraction → Bool
 is_one q = (q.num == 1) && (q.den == 1)
 
--- a passive rate is a multiple of `infty`: `infty`, `2*infty`, or `3/4*infty`
+-- a passive rate is a multiple of `infty`: `infty`, or `2*infty`
 abbrev pub weight_text : Fraction → List ℕ
 weight_text q = if is_one q then codes "infty" else fraction_text q ++ codes "*infty"
 
