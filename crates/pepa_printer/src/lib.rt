@@ -24,6 +24,7 @@ mod text;
 pub use components::{push_action, push_constant, push_expression};
 pub use lines::print_model;
 pub use rates::push_rate;
+pub use systems::{push_hiding, push_sign};
 pub use text::{push_bracket, push_text};
 
 #[cfg(test)]

@@ -73,7 +73,7 @@ fn is_composed(expression: &Sequential) -> bool
 }
 
 /// Appends the sign of a cooperation: `||`, or `<a,b>`.
-fn push_sign(to: &mut Vec<u8>, model: &Model, number: u32) -> Result<(), AllocError>
+pub fn push_sign(to: &mut Vec<u8>, model: &Model, number: u32) -> Result<(), AllocError>
     requires { number < length model.now.sets }
     ensures { OnOk result (to.new.items ≡ to.old.items ++ sign_text model.now (set_of model.now number)) }
 {
@@ -87,7 +87,7 @@ fn push_sign(to: &mut Vec<u8>, model: &Model, number: u32) -> Result<(), AllocEr
 }
 
 /// Appends `/{a,b}`.
-fn push_hiding(to: &mut Vec<u8>, model: &Model, number: u32) -> Result<(), AllocError>
+pub fn push_hiding(to: &mut Vec<u8>, model: &Model, number: u32) -> Result<(), AllocError>
     requires { number < length model.now.sets }
     ensures { OnOk result (to.new.items ≡ to.old.items ++ hiding_text model.now (set_of model.now number)) }
 {
