@@ -1,43 +1,45 @@
 -- Answers.
-use Rattle.std.proofs.Common.{◌≡◌, ℕ, List, [], ◌∷◌, ◌++◌, Result, Ok, Err, IfOk, refl, sym, ap, ◌∙◌, inr}
+use Rattle.std.proofs.Common.{◌≡◌, ℕ, List, [], ◌∷◌, ◌++◌, Result, Ok, Err, IfOk, refl, ap, ◌∙◌, inl, inr, subst}
 use Rattle.std.specs.List.{AllZip}
-use Rattle.pepa_model.specs.Expression.{WordTerm}
-use Rattle.pepa_model.specs.Derivation.{Transition}
 use Rattle.pepa_model.specs.PepaModel.{PepaModel}
-use Rattle.sim_command.specs.LeafTerms.{StandsFor, StepStandsFor}
-use Rattle.pepa_model.specs.declared.term.Term.{Term, Leaf, Coop', Hide'}
 use Rattle.pepa_model.specs.declared.term.Step.{Step}
 use Rattle.pepa_checks.specs.CheckedFiles.{Reads}
+use Rattle.pepa_steps.specs.States.{State, StateTransition, StepStandsFor}
+use Rattle.pepa_steps.specs.StepsAnswers as steps
+use Rattle.pepa_steps.specs.declared.transitions.StepsEnd.TheVariants.{Fault}
+use Rattle.pepa_steps.specs.declared.transitions.StepFault.{StepFault}
 use Rattle.sim_command.specs.declared.answered.Answered.{Answered}
 use Rattle.sim_command.specs.declared.words.Command.{Command}
-use Rattle.sim_command.specs.StepsText.{step_text, steps_text_of, term_text, leaf_text}
-use Rattle.sim_command.specs.TransitionsText.{word_text, transition_text, transitions_text}
-use Rattle.sim_command.specs.StepsAnswers.{AnswersSteps}
-use Rattle.sim_command.specs.Support.{IsSupported}
-use Rattle.sim_command.specs.ModelAnswers.{IsStepsAnswer, IsModelAnswer, first_state}
+use Rattle.sim_command.specs.declared.fault.Fault.TheVariants as faults
+use Rattle.sim_command.specs.declared.fault.Stop.{Stop}
+use Rattle.sim_command.specs.StepsText.{step_text, steps_text_of}
+use Rattle.sim_command.specs.TransitionsText.{transition_text, transitions_text}
+use Rattle.sim_command.specs.FirstStates.{IsFirstState}
+use Rattle.sim_command.specs.ModelAnswers.{IsRefusal, IsStepsAnswer, IsModelAnswer, stop_of}
 use Rattle.sim_command.specs.Answer.{IsAnswer}
 
 -- steps are written as the transitions that they stand for
-same_target : (m : PepaModel) (term : Term) (word : WordTerm) → StandsFor m term word → term_text m term ≡ word_text m word
-same_target m (Leaf number) word (e, at, is) = ap (leaf_text m) at ∙ ap (word_text m) (sym is)
-same_target m (Coop' p x q y set) word h = absurd h
-same_target m (Hide' p x set) word h = absurd h
+same_step : (m : PepaModel) (s : Step) (t : StateTransition) → StepStandsFor m s t → step_text m s ≡ transition_text m t
+same_step m s t h = rw (h.action, h.rate, h.target) refl
 
-same_step : (m : PepaModel) (s : Step) (t : Transition) → StepStandsFor m s t → step_text m s ≡ transition_text m t
-same_step m s t h = rw (h.action, h.rate, same_target m s.target t.target h.target) refl
-
-pub same_text : (m : PepaModel) (steps : List Step) (ts : List Transition) → AllZip (StepStandsFor m) steps ts → steps_text_of m steps ≡ transitions_text m ts
+pub same_text : (m : PepaModel) (list : List Step) (ts : List StateTransition) → AllZip (StepStandsFor m) list ts → steps_text_of m list ≡ transitions_text m ts
 same_text m [] [] h = refl
 same_text m [] (t ∷ ts) h = absurd h
-same_text m (s ∷ steps) [] h = absurd h
-same_text m (s ∷ steps) (t ∷ ts) h = ap (λ l. l ++ steps_text_of m steps) (same_step m s t h.0) ∙ ap (λ l. transition_text m t ++ l) (same_text m steps ts h.1)
+same_text m (s ∷ list) [] h = absurd h
+same_text m (s ∷ list) (t ∷ ts) h = ap (λ l. l ++ steps_text_of m list) (same_step m s t h.0) ∙ ap (λ l. transition_text m t ++ l) (same_text m list ts h.1)
 
 -- the answer of status 0
-pub listed : (m : PepaModel) (term : Term) (steps : List Step) (answered : Answered) → IsSupported m → AnswersSteps m term (Ok steps) → StandsFor m term (first_state m.system)
-    → answered.status ≡ 0 → answered.out ≡ steps_text_of m steps → answered.line ≡ [] → IsStepsAnswer m answered
-listed m term steps answered supported answers stands status out line =
-    let (fine, (transitions, derived, stand)) = answers (first_state m.system) stands in
-    inr (inr (record { supported = supported; fine = fine; transitions = transitions; derived = derived; status_is = status; out_is = out ∙ same_text m steps transitions stand; line_is = line }))
+pub listed : (m : PepaModel) (state : State) (list : List Step) (answered : Answered) → IsFirstState m state → steps.IsStepsAnswer m state (Ok list)
+    → answered.status ≡ 0 → answered.out ≡ steps_text_of m list → answered.line ≡ [] → IsStepsAnswer m answered
+listed m state list answered first (fine, (transitions, derived, stand)) status out line =
+    inr (record { state = state; first = first; fine = fine; transitions = transitions; derived = derived; status_is = status; out_is = out ∙ same_text m list transitions stand; line_is = line })
+
+-- the answer of status 6
+pub stopped : (m : PepaModel) (state : State) (name : StepFault) (stop : Stop) (answered : Answered) → IsFirstState m state → steps.IsStepsAnswer m state (Err (Fault name))
+    → stop ≡ stop_of name → IsRefusal answered 6 (faults.StepsStopped stop) → IsStepsAnswer m answered
+stopped m state name stop answered first (fault, verdict, is) told refused =
+    let same : stop ≡ stop_of (steps.fault_name fault) = told ∙ ap stop_of is in
+    inl (record { state = state; first = first; fault = fault; verdict = verdict; refused = subst (λ (s : Stop). IsRefusal answered 6 (faults.StepsStopped s)) same refused })
 
 -- the answer for the input's model answers the input
 pub answered : {E : Type 0} (command : Command) (input : List ℕ) (m : PepaModel) (result : Result Answered E) → Reads input m → IfOk result (IsModelAnswer command m) → IfOk result (IsAnswer command input)

@@ -20,9 +20,8 @@ no_front out piece none wrote = omega (arith, ap length none, wrote.short)
 
 -- an answer for a model whose bytes could not all be written has status 0
 written_of_model : (command : Command) (m : PepaModel) (answer : Answered) (out : Seen) → IsModelAnswer command m answer → WroteFront out answer.out → answer.status ≡ 0
-written_of_model Steps m answer out (inl unsupported) wrote = absurd (no_front out answer.out unsupported.refused.out_is wrote)
-written_of_model Steps m answer out (inr (inl stopped)) wrote = absurd (no_front out answer.out stopped.refused.out_is wrote)
-written_of_model Steps m answer out (inr (inr listed)) wrote = listed.status_is
+written_of_model Steps m answer out (inl stopped) wrote = absurd (no_front out answer.out stopped.refused.out_is wrote)
+written_of_model Steps m answer out (inr listed) wrote = listed.status_is
 written_of_model Check m answer out counted wrote = counted.status_is
 written_of_model Print m answer out printed wrote = printed.status_is
 

@@ -3,8 +3,14 @@ use Rattle.std.proofs.Common.{◌≡◌, ℕ, List, ◌⊎◌, inl, inr, refl, s
 use Rattle.pepa_lexer.specs.declared.kinds.Place.{Place}
 use Rattle.pepa_model.specs.Expanded.{leaves_in}
 use Rattle.pepa_model.specs.PepaModel.{PepaModel}
-use Rattle.pepa_model.proofs.OneList.{one_list, one_verdict, verdict_or_none}
 use Rattle.pepa_checks.proofs.OneModel.{one_model}
+use Rattle.pepa_steps.specs.States.{State}
+use Rattle.pepa_steps.specs.Rules.{IsTransitionList}
+use Rattle.pepa_steps.specs.StateVerdict.{PartFault, IsVerdict, IsWithoutFault}
+use Rattle.pepa_steps.specs.StepsAnswers.{fault_name}
+use Rattle.pepa_steps.proofs.OneState.{one_list}
+use Rattle.pepa_steps.proofs.OneVerdict.{one_verdict, verdict_or_none}
+use Rattle.sim_command.specs.FirstStates.{IsFirstState, expanded_state}
 use Rattle.pepa_checks.proofs.OneTree.{one_expansion}
 use Rattle.sim_command.specs.declared.answered.Answered.{Answered}
 use Rattle.sim_command.specs.declared.words.Command.{Command}
@@ -12,14 +18,10 @@ use Rattle.sim_command.specs.declared.words.Command.TheVariants.{Steps, Check, P
 use Rattle.sim_command.specs.declared.fault.FaultName.{FaultName}
 use Rattle.sim_command.specs.declared.fault.Fault.{Fault}
 use Rattle.sim_command.specs.declared.fault.Fault.TheVariants as faults
-use Rattle.sim_command.specs.declared.transitions.StepFault.{StepFault}
-use Rattle.sim_command.specs.declared.transitions.StepFault.TheVariants as named
-use Rattle.sim_command.specs.StepsAnswers.{named_fault}
 use Rattle.sim_command.specs.TransitionsText.{transitions_text}
-use Rattle.sim_command.specs.Support.{IsSupported}
 use Rattle.sim_command.specs.Systems.{HasLeaves}
 use Rattle.sim_command.specs.CheckText.{counts_text, IsCheckText}
-use Rattle.sim_command.specs.ModelAnswers.{IsRefusal, IsStopped, IsListed, IsStepsAnswer, IsModelAnswer, first_state, stop_of, unsupported}
+use Rattle.sim_command.specs.ModelAnswers.{IsRefusal, IsStopped, IsListed, IsStepsAnswer, IsModelAnswer, stop_of}
 use Rattle.sim_command.specs.Answer.{IsUnread, IsAnswer}
 use Rattle.sim_command.proofs.OneOutcome.{one_model_fault, model_or_fault}
 
@@ -33,43 +35,30 @@ same_parts x y status out line =
 same_refusal : (x y : Answered) (status : ℕ) (fault : Fault) → IsRefusal x status fault → IsRefusal y status fault → x ≡ y
 same_refusal x y status fault h k = same_parts x y (h.status_is ∙ sym k.status_is) (h.out_is ∙ sym k.out_is) (h.line_is ∙ sym k.line_is)
 
-same_name : (f g : StepFault) → named_fault f ≡ named_fault g → f ≡ g
-same_name named.Mixed named.Mixed e = refl
-same_name named.Mixed named.Overflow e = absurd (cc)
-same_name named.Mixed named.ListTooLong e = absurd (cc)
-same_name named.Overflow named.Mixed e = absurd (cc)
-same_name named.Overflow named.Overflow e = refl
-same_name named.Overflow named.ListTooLong e = absurd (cc)
-same_name named.ListTooLong named.Mixed e = absurd (cc)
-same_name named.ListTooLong named.Overflow e = absurd (cc)
-same_name named.ListTooLong named.ListTooLong e = refl
+-- a model has one first state
+one_first : (m : PepaModel) (p q : State) → IsFirstState m p → IsFirstState m q → p ≡ q
+one_first m p q h k = h.state_is ∙ ap (expanded_state m) (one_expansion m.bodies m.system h.tree k.tree h.expands k.expands) ∙ sym k.state_is
 
 module _ (m : PepaModel) (x y : Answered) where
   both_stopped : IsStopped m x → IsStopped m y → x ≡ y
   both_stopped h k =
-      let same = same_name h.fault k.fault (one_verdict m.bodies (first_state m.system) (named_fault h.fault) (named_fault k.fault) h.verdict k.verdict) in
-      same_refusal x y 6 (faults.StepsStopped (stop_of k.fault)) (subst (λ (f : StepFault). IsRefusal x 6 (faults.StepsStopped (stop_of f))) same h.refused) k.refused
+      let state = one_first m k.state h.state k.first h.first in
+      let same : h.fault ≡ k.fault = one_verdict m.bodies h.state h.fault k.fault h.verdict (subst (λ (s : State). IsVerdict m.bodies s k.fault) state k.verdict) in
+      same_refusal x y 6 (faults.StepsStopped (stop_of (fault_name k.fault))) (subst (λ (f : PartFault). IsRefusal x 6 (faults.StepsStopped (stop_of (fault_name f)))) same h.refused) k.refused
 
   both_listed : IsListed m x → IsListed m y → x ≡ y
   both_listed h k =
-      let same = one_list m.bodies (first_state m.system) h.transitions k.transitions h.derived k.derived in
+      let state = one_first m k.state h.state k.first h.first in
+      let same = one_list m.bodies h.state h.transitions k.transitions h.derived (subst (λ (s : State). IsTransitionList m.bodies s k.transitions) state k.derived) in
       same_parts x y (h.status_is ∙ sym k.status_is) (h.out_is ∙ ap (transitions_text m) same ∙ sym k.out_is) (h.line_is ∙ sym k.line_is)
 
-  one_stop : IsStopped m x ⊎ IsListed m x → IsStopped m y ⊎ IsListed m y → x ≡ y
-  one_stop (inl h) (inl k) = both_stopped h k
-  one_stop (inl h) (inr k) = absurd (verdict_or_none m.bodies (first_state m.system) (named_fault h.fault) h.verdict k.fine)
-  one_stop (inr h) (inl k) = absurd (verdict_or_none m.bodies (first_state m.system) (named_fault k.fault) k.verdict h.fine)
-  one_stop (inr h) (inr k) = both_listed h k
-
-  supported_one : (a : Answered) → IsStopped m a ⊎ IsListed m a → IsSupported m
-  supported_one a (inl h) = h.supported
-  supported_one a (inr h) = h.supported
-
   one_steps_answer : IsStepsAnswer m x → IsStepsAnswer m y → x ≡ y
-  one_steps_answer (inl h) (inl k) = same_refusal x y 3 unsupported h.refused k.refused
-  one_steps_answer (inl h) (inr k) = absurd (h.not_supported (supported_one y k))
-  one_steps_answer (inr h) (inl k) = absurd (k.not_supported (supported_one x h))
-  one_steps_answer (inr h) (inr k) = one_stop h k
+  one_steps_answer (inl h) (inl k) = both_stopped h k
+  one_steps_answer (inl h) (inr k) =
+      absurd (verdict_or_none m.bodies h.state h.fault h.verdict (subst (IsWithoutFault m.bodies) (one_first m k.state h.state k.first h.first) k.fine))
+  one_steps_answer (inr h) (inl k) =
+      absurd (verdict_or_none m.bodies k.state k.fault k.verdict (subst (IsWithoutFault m.bodies) (one_first m h.state k.state h.first k.first) h.fine))
+  one_steps_answer (inr h) (inr k) = both_listed h k
 
 one_count : (m : PepaModel) (i j : ℕ) → HasLeaves m i → HasLeaves m j → i ≡ j
 one_count m i j h k = h.count_is ∙ ap leaves_in (one_expansion m.bodies m.system h.tree k.tree h.expands k.expands) ∙ sym k.count_is

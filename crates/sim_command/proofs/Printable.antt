@@ -1,56 +1,119 @@
 -- What `steps` answers can be printed: its numbers are the model's, and it has no signals.
-use Rattle.std.proofs.Common.{◌≡◌, ℕ, ◌<◌, List, [], ◌∷◌, Some, Ok, slice_get, length, get_or, refl, sym, subst, ◌∙◌}
+use Rattle.std.proofs.Common.{◌≡◌, ◌==◌, ℕ, ◌<◌, Bool, true, false, cond, not, if◌then◌else◌, bit_or, List, [], ◌∷◌, ◌++◌, map, filter, flat_map, Some, Ok, slice_get, length, get_or, codes, refl, sym, ap, ◌∙◌, subst, arith}
 use Rattle.std.specs.List.{AllByRecursion, AllZip}
-use Rattle.std.proofs.lemmas.Option.{slice_get_within, slice_get-get_or}
+use Rattle.std.proofs.lemmas.Option.{slice_get-get_or, slice_get_within}
 use Rattle.std.proofs.lemmas.List.Elements.{All-from_recursion}
-use Rattle.pepa_model.specs.Expression.{Const, WordTerm, LeafOf}
+use Rattle.pepa_rates.specs.declared.rate.Rate.{Rate}
+use Rattle.pepa_model.specs.Expression.{Expression, Const}
 use Rattle.pepa_model.specs.Derivation.{Transition}
-use Rattle.pepa_model.specs.Opened.{moves}
+use Rattle.pepa_model.specs.Opened.{Opened, Opens, moves}
 use Rattle.pepa_model.specs.PepaModel.{PepaModel, IsModel, StandsForTransition}
-use Rattle.pepa_model.specs.Terms.{IsTermOf}
-use Rattle.sim_command.specs.LeafTerms.{IsLeaf, StandsFor, StepStandsFor}
+use Rattle.pepa_model.specs.Terms.{TermNode, LeafNode, CoopNode, HideNode, term_of, IsNodeOf, IsTermOf}
 use Rattle.pepa_model.specs.declared.term.Activity.{Activity}
 use Rattle.pepa_model.specs.declared.term.Step.{Step}
-use Rattle.pepa_model.specs.declared.term.Term.{Term, Leaf, Coop', Hide'}
-use Rattle.pepa_model.proofs.TransitionLists.{transition_list}
-use Rattle.pepa_model.proofs.OneList.{one_list}
-use Rattle.sim_command.specs.StepsAnswers.{AnswersSteps}
+use Rattle.pepa_model.specs.declared.term.Term.{Term}
+use Rattle.pepa_model.proofs.OneList.{one_opening}
+use Rattle.pepa_steps.specs.States.{State, has, StateTransition, node_state, state_of, StepStandsFor}
+use Rattle.pepa_steps.specs.OpenStates.{OpenState, LeafOpen, CoopOpen, HideOpen, OpensState, parts_in, moves_in, leaf_move, left_move, right_move, joint_move, joint_moves, hidden_move, closed_state, apparent_in, rate_of}
+use Rattle.pepa_steps.specs.StateVerdict.{IsFinePart, HasFineRates}
+use Rattle.pepa_steps.specs.StepsAnswers.{IsStepsAnswer}
+use Rattle.pepa_steps.proofs.OneState.{one_list}
+use Rattle.pepa_steps.proofs.StateLists.{transition_list}
+use Rattle.pepa_steps.proofs.NoTau.{has_no_tau}
 use Rattle.sim_command.specs.StepsText.{CanPrint, CanPrintStep}
 
-module _ (m : PepaModel) where
-  pub stands_is_term : (t : Term) (word : WordTerm) → StandsFor m t word → IsTermOf m t
-  stands_is_term (Leaf number) word (e, at, is) = slice_get_within m.leaves number e at
-  stands_is_term (Coop' p x q y set) word h = absurd h
-  stands_is_term (Hide' p x set) word h = absurd h
+-- ---- lists
 
-  pub stands_is_leaf : (t : Term) (word : WordTerm) → StandsFor m t word → IsLeaf t
-  stands_is_leaf (Leaf number) word h = (number, refl)
-  stands_is_leaf (Coop' p x q y set) word h = absurd h
-  stands_is_leaf (Hide' p x set) word h = absurd h
+module _ {X : Type 0} (P : X → Type 0) where
+  all_append : (xs ys : List X) → AllByRecursion P xs → AllByRecursion P ys → AllByRecursion P (xs ++ ys)
+  all_append [] ys h k = k
+  all_append (x ∷ xs) ys h k = (h.0, all_append xs ys h.1 k)
 
-  step_can_print : (step : Step) (a : Activity) (t : Transition) → StepStandsFor m step t → StandsForTransition m.leaves a t → a.action < length m.actions → CanPrintStep m step
-  step_can_print step a t h k known = record {
-    action = subst (λ (n : ℕ). n < length m.actions) (sym (h.action ∙ k.action)) known;
-    signals = h.signals ∙ k.signals;
-    target = stands_is_term step.target t.target h.target;
-    leaf = stands_is_leaf step.target t.target h.target;
-  }
+  all_filter : (test : X → Bool) (xs : List X) → AllByRecursion P xs → AllByRecursion P (filter test xs)
+  all_filter test [] h = tt
+  all_filter test (x ∷ xs) h = by (test x) (all_filter test xs h.1)
+    where
+      by : (b : Bool) → AllByRecursion P (filter test xs) → AllByRecursion P (cond b (x ∷ filter test xs) (filter test xs))
+      by true rest = (h.0, rest)
+      by false rest = rest
 
-  each_can_print : (steps : List Step) (activities : List Activity) (ts : List Transition) → AllZip (StepStandsFor m) steps ts → AllZip (StandsForTransition m.leaves) activities ts → AllByRecursion (λ a. a.action < length m.actions) activities → AllByRecursion (CanPrintStep m) steps
-  each_can_print [] activities ts h k known = tt
-  each_can_print (s ∷ steps) activities [] h k known = absurd h
-  each_can_print (s ∷ steps) [] (t ∷ ts) h k known = absurd k
-  each_can_print (s ∷ steps) (a ∷ activities) (t ∷ ts) h k known =
-      (step_can_print s a t h.0 k.0 known.0, each_can_print steps activities ts h.1 k.1 known.1)
+all_map : {X Y : Type 0} (P : X → Type 0) (Q : Y → Type 0) (f : X → Y) → ((x : X) → P x → Q (f x)) → (xs : List X) → AllByRecursion P xs → AllByRecursion Q (map f xs)
+all_map P Q f each [] h = tt
+all_map P Q f each (x ∷ xs) h = (each x h.0, all_map P Q f each xs h.1)
 
-  pub steps_can_print : (term : Term) (steps : List Step) → IsModel m → IsTermOf m term → IsLeaf term → AnswersSteps m term (Ok steps) → CanPrint m steps
-  steps_can_print (Coop' p x q y set) steps sound is leaf answers = let same = leaf.1 in absurd cc
-  steps_can_print (Hide' p x set) steps sound is leaf answers = let same = leaf.1 in absurd cc
-  steps_can_print (Leaf number) steps sound is one answers =
-      let e = get_or m.leaves number (Const 0) in
-      let at : slice_get m.leaves number ≡ Some e = slice_get-get_or m.leaves number (Const 0) is in
-      let leaf = sound.leaves number e at in
-      let (transitions, listed, stand) = (answers (LeafOf e) (e, at, refl)).1 in
-      let same : transitions ≡ moves leaf.opened = one_list m.bodies (LeafOf e) transitions (moves leaf.opened) listed (transition_list m.bodies e leaf.opened leaf.opens) in
+all_flat : {X Y : Type 0} (P : X → Type 0) (Q : Y → Type 0) (f : X → List Y) → ((x : X) → P x → AllByRecursion Q (f x)) → (xs : List X) → AllByRecursion P xs → AllByRecursion Q (flat_map f xs)
+all_flat P Q f each [] h = tt
+all_flat P Q f each (x ∷ xs) h = all_append Q (f x) (flat_map f xs) (each x h.0) (all_flat P Q f each xs h.1)
+
+-- ---- the transitions of a state of a model
+
+module _ (m : PepaModel) (sound : IsModel m) where
+  -- its action type is the model's, and it has no signals
+  abbrev IsKnown : StateTransition → Type 0
+  IsKnown t = (t.action < length m.actions) × (t.signals ≡ 0)
+
+  leaf_known : (activities : List Activity) (ts : List Transition) → AllZip (StandsForTransition m.leaves) activities ts → AllByRecursion (λ a. a.action < length m.actions) activities → AllByRecursion IsKnown (map leaf_move ts)
+  leaf_known [] [] h known = tt
+  leaf_known [] (t ∷ ts) h known = absurd h
+  leaf_known (a ∷ activities) [] h known = absurd h
+  leaf_known (a ∷ activities) (t ∷ ts) h known =
+      ((subst (λ (n : ℕ). n < length m.actions) (sym h.0.action) known.0, h.0.signals), leaf_known activities ts h.1 known.1)
+
+  tau_known : 0 < length m.actions
+  tau_known = slice_get_within m.actions 0 (codes "tau") sound.tau
+
+  joint_known : (set : List ℕ) (ra rb : ℕ → Rate) (us vs : List StateTransition) → AllByRecursion IsKnown us → AllByRecursion IsKnown vs → AllByRecursion IsKnown (joint_moves set ra rb us vs)
+  joint_known set ra rb us vs h k =
+      all_flat IsKnown IsKnown (λ u. map (joint_move set (ra u.action) (rb u.action) u) (filter (λ v. u.action == v.action) vs))
+      (λ u known. all_map IsKnown IsKnown (joint_move set (ra u.action) (rb u.action) u) (λ v other. (known.0, united u.signals v.signals known.1 other.1)) (filter (λ v. u.action == v.action) vs) (all_filter IsKnown (λ v. u.action == v.action) vs k))
+      (filter (λ u. has set u.action) us) (all_filter IsKnown (λ u. has set u.action) us h)
+    where
+      united : (x y : ℕ) → x ≡ 0 → y ≡ 0 → bit_or x y ≡ 0
+      united x y e f = ap (λ (n : ℕ). bit_or n y) e ∙ ap (λ (n : ℕ). bit_or 0 n) f
+
+  moves_known : (node : TermNode) (tree : OpenState) → IsNodeOf m node → OpensState m.bodies (node_state m node) tree → AllByRecursion IsKnown (moves_in tree)
+  moves_known (LeafNode n) (LeafOpen o) is opens =
+      let e : Expression = get_or m.leaves n (Const 0) in
+      let leaf = sound.leaves n e (slice_get-get_or m.leaves n (Const 0) is) in
+      let same : leaf.opened ≡ o = one_opening m.bodies e e leaf.opened o refl leaf.opens opens in
+      subst (λ (p : Opened). AllByRecursion IsKnown (map leaf_move (moves p))) same (leaf_known leaf.activities (moves leaf.opened) leaf.stand leaf.known)
+  moves_known (LeafNode n) (CoopOpen s t set) is opens = absurd opens
+  moves_known (LeafNode n) (HideOpen s set) is opens = absurd opens
+  moves_known (CoopNode x y set) (LeafOpen o) is opens = absurd opens
+  moves_known (CoopNode x y set) (HideOpen s other) is opens = absurd opens
+  moves_known (CoopNode x y set) (CoopOpen s t other) is opens =
+      let left = moves_known x s is.0 opens.0 in
+      let right = moves_known y t is.1 opens.1 in
+      all_append IsKnown
+      (map (left_move (closed_state t) other) (filter (λ u. not (has other u.action)) (moves_in s)) ++ map (right_move (closed_state s) other) (filter (λ v. not (has other v.action)) (moves_in t)))
+      (joint_moves other (λ a. rate_of (apparent_in s a)) (λ a. rate_of (apparent_in t a)) (moves_in s) (moves_in t))
+      (all_append IsKnown
+      (map (left_move (closed_state t) other) (filter (λ u. not (has other u.action)) (moves_in s))) (map (right_move (closed_state s) other) (filter (λ v. not (has other v.action)) (moves_in t)))
+      (all_map IsKnown IsKnown (left_move (closed_state t) other) (λ u known. known) (filter (λ u. not (has other u.action)) (moves_in s)) (all_filter IsKnown (λ u. not (has other u.action)) (moves_in s) left))
+      (all_map IsKnown IsKnown (right_move (closed_state s) other) (λ v known. known) (filter (λ v. not (has other v.action)) (moves_in t)) (all_filter IsKnown (λ v. not (has other v.action)) (moves_in t) right)))
+      (joint_known other (λ a. rate_of (apparent_in s a)) (λ a. rate_of (apparent_in t a)) (moves_in s) (moves_in t) left right)
+  moves_known (HideNode x set) (LeafOpen o) is opens = absurd opens
+  moves_known (HideNode x set) (CoopOpen s t other) is opens = absurd opens
+  moves_known (HideNode x set) (HideOpen s other) is opens =
+      all_map IsKnown IsKnown (hidden_move other) (λ u known. (by (has other u.action) u.action known.0, known.1)) (moves_in s) (moves_known x s is.0 opens.0)
+    where
+      by : (b : Bool) (a : ℕ) → a < length m.actions → (if b then 0 else a) < length m.actions
+      by true a known = tau_known
+      by false a known = known
+
+  each_can_print : (steps : List Step) (ts : List StateTransition) → AllZip (StepStandsFor m) steps ts → AllByRecursion IsKnown ts → AllByRecursion (CanPrintStep m) steps
+  each_can_print [] ts h known = tt
+  each_can_print (s ∷ steps) [] h known = absurd h
+  each_can_print (s ∷ steps) (t ∷ ts) h known =
+      (record { action = subst (λ (n : ℕ). n < length m.actions) (sym h.0.action) known.0.0; signals = h.0.signals ∙ known.0.1; target = h.0.of_model }, each_can_print steps ts h.1 known.1)
+
+  pub steps_can_print : (term : Term) (steps : List Step) → IsTermOf m term → IsStepsAnswer m (state_of m term) (Ok steps) → CanPrint m steps
+  steps_can_print term steps is ((tree, opens, fine), (transitions, listed, stand)) =
+      let moves_list = transition_list m.bodies (state_of m term) tree opens (has_no_tau m sound (term_of term) tree is opens) (rates_of (parts_in tree) fine) in
+      let same : transitions ≡ moves_in tree = one_list m.bodies (state_of m term) transitions (moves_in tree) listed moves_list in
       All-from_recursion (CanPrintStep m) steps
-      (each_can_print steps leaf.activities (moves leaf.opened) (subst (λ (ts : List Transition). AllZip (StepStandsFor m) steps ts) same stand) leaf.stand leaf.known)
+      (each_can_print steps (moves_in tree) (subst (λ (ts : List StateTransition). AllZip (StepStandsFor m) steps ts) same stand) (moves_known (term_of term) tree is opens))
+    where
+      rates_of : (parts : List OpenState) → AllByRecursion IsFinePart parts → AllByRecursion HasFineRates parts
+      rates_of [] h = tt
+      rates_of (p ∷ parts) h = (h.0.rates, rates_of parts h.1)

@@ -1,16 +1,12 @@
-pub mod LeafTerms
-pub mod ApparentAnswers
-pub mod ActionRates
-pub mod StepsAnswers
 pub mod FaultLine
 pub mod Words
 pub mod StepsText
 pub mod TransitionsText
 pub mod ModelFaults
-pub mod Support
 pub mod Systems
 pub mod CheckText
 pub mod ModelAnswers
 pub mod Answer
 pub mod TopCall
 pub mod ShortTexts
+pub mod FirstStates

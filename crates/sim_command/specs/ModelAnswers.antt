@@ -1,23 +1,22 @@
 -- What each command answers for a model.
 use Rattle.std.specs.Prelude.{◌≡◌, ℕ, List, [], ◌⊎◌}
-use Rattle.pepa_model.specs.Expression.{Const, WordTerm, LeafOf, Shape, LeafShape}
-use Rattle.pepa_model.specs.Derivation.{Transition, IsTransitionList}
-use Rattle.pepa_model.specs.Verdict.{IsWithoutFault, IsVerdict}
 use Rattle.pepa_model.specs.PepaModel.{PepaModel}
-use Rattle.sim_command.specs.declared.transitions.StepFault.{StepFault}
-use Rattle.sim_command.specs.declared.transitions.StepFault.TheVariants as named
+use Rattle.pepa_steps.specs.States.{State, StateTransition}
+use Rattle.pepa_steps.specs.Rules.{IsTransitionList}
+use Rattle.pepa_steps.specs.StateVerdict.{PartFault, IsWithoutFault, IsVerdict}
+use Rattle.pepa_steps.specs.StepsAnswers.{fault_name}
+use Rattle.pepa_steps.specs.declared.transitions.StepFault.{StepFault}
+use Rattle.pepa_steps.specs.declared.transitions.StepFault.TheVariants as named
 use Rattle.sim_command.specs.declared.fault.Fault.{Fault}
 use Rattle.sim_command.specs.declared.fault.Fault.TheVariants as faults
-use Rattle.sim_command.specs.declared.fault.FaultName.TheVariants as names
 use Rattle.sim_command.specs.declared.fault.Stop.{Stop}
 use Rattle.sim_command.specs.declared.fault.Stop.TheVariants as stops
 use Rattle.sim_command.specs.declared.answered.Answered.{Answered}
 use Rattle.sim_command.specs.declared.words.Command.{Command}
 use Rattle.sim_command.specs.declared.words.Command.TheVariants.{Steps, Check, Print}
-use Rattle.sim_command.specs.StepsAnswers.{named_fault}
 use Rattle.sim_command.specs.FaultLine.{fault_text}
 use Rattle.sim_command.specs.TransitionsText.{transitions_text}
-use Rattle.sim_command.specs.Support.{IsSupported}
+use Rattle.sim_command.specs.FirstStates.{IsFirstState}
 use Rattle.pepa_printer.specs.ModelText.{model_text}
 use Rattle.pepa_checks.specs.CheckedFiles.{IsTextOf}
 use Rattle.sim_command.specs.CheckText.{IsCheckText}
@@ -30,47 +29,33 @@ pub record IsRefusal (answered : Answered) (status : ℕ) (fault : Fault) : Type
 
 -- ---- steps
 
--- a model's first state is its system; one that isn't a leaf has none until cooperations have rules, and no supported model
--- has such a system
-abbrev pub first_state : Shape → WordTerm
-first_state (LeafShape e) = LeafOf e
-first_state _ = LeafOf (Const 0)
-
 abbrev pub stop_of : StepFault → Stop
 stop_of named.Mixed = stops.Mixed
 stop_of named.Overflow = stops.Overflow
 stop_of named.ListTooLong = stops.ListTooLong
 
--- the refusal of a model that isn't supported tells no place
-abbrev pub unsupported : Fault
-unsupported = faults.Model (record { line = 1; column = 1 }) names.Unsupported
-
--- status 3: the model isn't supported
-pub record IsUnsupported (m : PepaModel) (answered : Answered) : Type 0 where
-  pub not_supported : ¬ IsSupported m
-  pub refused : IsRefusal answered 3 unsupported
-
--- status 6: the model is supported, and the verdict on its first state names a fault
+-- status 6: the verdict on the first state names a fault
 pub record IsStopped (m : PepaModel) (answered : Answered) : Type 0 where
-  pub supported : IsSupported m
-  pub fault : StepFault
-  pub verdict : IsVerdict m.bodies (first_state m.system) (named_fault fault)
-  pub refused : IsRefusal answered 6 (faults.StepsStopped (stop_of fault))
+  pub state : State
+  pub first : IsFirstState m state
+  pub fault : PartFault
+  pub verdict : IsVerdict m.bodies state fault
+  pub refused : IsRefusal answered 6 (faults.StepsStopped (stop_of (fault_name fault)))
 
--- status 0: the model is supported, its first state has no fault, and the transition list of that state is written, a line
--- for each derivation
+-- status 0: the first state has no fault, and its transition list is written, a line for each derivation
 pub record IsListed (m : PepaModel) (answered : Answered) : Type 0 where
-  pub supported : IsSupported m
-  pub fine : IsWithoutFault m.bodies (first_state m.system)
-  pub transitions : List Transition
-  pub derived : IsTransitionList m.bodies (first_state m.system) transitions
+  pub state : State
+  pub first : IsFirstState m state
+  pub fine : IsWithoutFault m.bodies state
+  pub transitions : List StateTransition
+  pub derived : IsTransitionList m.bodies state transitions
   pub status_is : answered.status ≡ 0
   pub out_is : answered.out ≡ transitions_text m transitions
   pub line_is : answered.line ≡ []
 
 -- the answer of `steps` for a model
 abbrev pub IsStepsAnswer : PepaModel → Answered → Type 0
-IsStepsAnswer m answered = IsUnsupported m answered ⊎ (IsStopped m answered ⊎ IsListed m answered)
+IsStepsAnswer m answered = IsStopped m answered ⊎ IsListed m answered
 
 -- ---- check
 

@@ -1,34 +1,22 @@
 //! The answer of `steps` for a model.
 ghost use Rattle.std.specs.Prelude.{◌≡◌, IfOk};
-ghost use Rattle.sim_command.specs.LeafTerms.{StandsFor};
-ghost use Rattle.sim_command.specs.Support.{IsSupported};
-ghost use Rattle.sim_command.specs.ModelAnswers.{IsStepsAnswer, first_state, stop_of};
+ghost use Rattle.sim_command.specs.ModelAnswers.{IsStepsAnswer, stop_of};
 
 use crate::answered::{Answered, refusal};
-use crate::fault::{Fault, FaultName, Place, Stop};
-use crate::leaf_lookup::leaf_number;
+use crate::fault::{Fault, Stop};
+use crate::first_term::first_term;
 use crate::line::Line;
-use crate::support::is_supported;
 use crate::transition_text::steps_text;
-use crate::transitions::{StepFault, StepsEnd, steps};
-use pepa_model::{Model, Shape2, Term};
+use pepa_model::Model;
+use pepa_steps::{StepFault, StepsEnd, steps};
 use std::alloc::{AllocError, Global};
 
-/// What is said of a model that isn't supported.
-const UNSUPPORTED: Fault = Fault::Model {
-    place: Place { line: 1, column: 1 },
-    name: FaultName::Unsupported,
-};
-
-/// The answer of `steps` for a model: the transitions of its system, or why there are none.
+/// The answer of `steps` for a model: the transitions of its first state, or why there are none.
 pub(crate) fn steps_answer(alloc: Global, model: &Model) -> Result<Answered, AllocError>
     ensures { IfOk result (IsStepsAnswer model.now) }
 {
-    if !is_supported(model) {
-        return Ok(refusal(alloc, 3, &UNSUPPORTED));
-    }
     model.is_sound();
-    let term = first_term(model);
+    let term = first_term(alloc, model)?;
     match steps(alloc, model, &term) {
         Ok(list) => Ok(Answered {
             status: 0,
@@ -43,19 +31,6 @@ pub(crate) fn steps_answer(alloc: Global, model: &Model) -> Result<Answered, All
     }
 }
 
-/// The first state of a supported model.
-fn first_term(model: &Model) -> Term
-    requires { IsSupported model.now }
-    ensures { StandsFor model.now result (first_state model.now.system) }
-{
-    model.is_sound();
-    let system = &model.system;
-    match system {
-        Shape2::Leaf(component) => Term::Leaf(leaf_number(model, component)),
-        Shape2::Constant(_) | Shape2::Coop(..) | Shape2::Hide(..) => unreachable!(),
-    }
-}
-
 /// The stop by which the verdict's fault is told.
 fn stop_named(fault: StepFault) -> Stop
     ensures { result ≡ stop_of fault }
@@ -66,3 +41,6 @@ fn stop_named(fault: StepFault) -> Stop
         StepFault::ListTooLong => Stop::ListTooLong,
     }
 }
+
+#[cfg(test)]
+mod tests;

@@ -45,7 +45,7 @@ fn own_leaves(system: &Shape2, constants: &mut Words32) -> Result<u32, AllocErro
 }
 
 /// The system that a compound constant stands for.
-fn compound_system(model: &Model, constant: u32) -> &Shape2
+pub(crate) fn compound_system(model: &Model, constant: u32) -> &Shape2
     requires { (shape : Shape) × IsCompound model.now.bodies constant shape }
     ensures { IsCompound model.now.bodies constant (shape_of result.now) }
 {

@@ -1,11 +1,17 @@
 ghost use Rattle.std.specs.Prelude.{◌≡◌, ◌++◌, IfOk, OnOk};
 ghost use Rattle.pepa_model.specs.Terms.{IsTermOf};
-ghost use Rattle.sim_command.specs.LeafTerms.{IsLeaf};
-ghost use Rattle.sim_command.specs.StepsText.{CanPrint, CanPrintStep, step_text, steps_text_of, term_text};
+ghost use Rattle.pepa_model.specs.Expression.{expression_of};
+ghost use Rattle.pepa_model.specs.PepaModel.{PepaModel};
+ghost use Rattle.pepa_printer.specs.ModelText as printer;
+ghost use Rattle.pepa_steps.specs.States.{state_of};
+ghost use Rattle.sim_command.specs.TransitionsText as spec;
+ghost use Rattle.sim_command.specs.TransitionsText.{state_text};
+ghost use Rattle.sim_command.specs.StepsText.{CanPrint, CanPrintStep, step_text, steps_text_of};
 
-use crate::leaf_term::leaf_of;
-use pepa_model::{Model, Step, Term};
-use pepa_printer::{push_action, push_expression, push_rate, push_text};
+use pepa_model::{Model, Sequential, Step, Term};
+use pepa_printer::{
+    push_action, push_bracket, push_expression, push_hiding, push_rate, push_sign, push_text,
+};
 use sim_outside::Bytes;
 use std::alloc::{AllocError, Global};
 
@@ -34,12 +40,57 @@ fn push_step(alloc: Global, to: &mut Vec<u8>, model: &Model, step: &Step) -> Res
     push_text(to, b"\n")
 }
 
-/// Appends a term.
+/// Appends a term as its system is written: a cooperation stands in brackets behind the sign of another, and what is hidden if it
+/// is neither a constant nor a hiding.
 fn push_term(alloc: Global, to: &mut Vec<u8>, model: &Model, term: &Term) -> Result<(), AllocError>
-    requires of_model { IsTermOf model.now term.now }
-    requires leaf { IsLeaf term.now }
-    ensures { OnOk result (to.new.items ≡ to.old.items ++ term_text model.now term.now) }
+    requires { IsTermOf model.now term.now }
+    ensures { OnOk result (to.new.items ≡ to.old.items ++ state_text model.now (state_of model.now term.now)) }
 {
     model.is_sound();
-    push_expression(alloc, to, model, model.leaf(leaf_of(term)))
+    match term {
+        Term::Leaf(leaf) => push_expression(alloc, to, model, model.leaf(*leaf)),
+        Term::Coop(left, right, set) => {
+            push_term(alloc, to, model, left)?;
+            push_text(to, b" ")?;
+            push_sign(to, model, *set)?;
+            push_text(to, b" ")?;
+            let brackets = is_cooperation(right);
+            push_bracket(to, brackets, b"(")?;
+            push_term(alloc, to, model, right)?;
+            push_bracket(to, brackets, b")")
+        }
+        Term::Hide(inner, set) => {
+            let brackets = is_open(model, inner);
+            push_bracket(to, brackets, b"(")?;
+            push_term(alloc, to, model, inner)?;
+            push_bracket(to, brackets, b")")?;
+            push_hiding(to, model, *set)
+        }
+    }
+}
+
+/// Whether a term is a cooperation.
+fn is_cooperation(term: &Term) -> bool
+    ensures { (m : PepaModel) → result ≡ spec.is_cooperating (state_of m term.now) }
+{
+    matches!(term, Term::Coop(..))
+}
+
+/// Whether a term stands in brackets before `/`.
+fn is_open(model: &Model, term: &Term) -> bool
+    requires { IsTermOf model.now term.now }
+    ensures { result ≡ spec.is_open (state_of model.now term.now) }
+{
+    match term {
+        Term::Leaf(leaf) => is_composed(model.leaf(*leaf)),
+        Term::Coop(..) => true,
+        Term::Hide(..) => false,
+    }
+}
+
+/// Whether a component is no constant.
+fn is_composed(component: &Sequential) -> bool
+    ensures { result ≡ printer.is_composed (expression_of component.now) }
+{
+    !matches!(component, Sequential::Constant(_))
 }

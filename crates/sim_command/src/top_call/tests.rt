@@ -122,19 +122,79 @@ fn steps_of_models(rt: HostRuntime) -> Result<(), Fail> {
 }
 
 #[test]
-fn models_that_steps_refuses(rt: HostRuntime) -> Result<(), Fail> {
+fn steps_of_systems(rt: HostRuntime) -> Result<(), Fail> {
     let table = [
-        "P = (a,2).P; Q = (a,3).Q1 + (a,1).Q2; Q1 = (b,1).Q; Q2 = (b,1).Q; P <a> Q",
-        "P = (a,6).P; Q = (a,infty).Q + (a,2*infty).Q; P <a> Q",
-        "P = (a,1).P; P / {a}",
-        "P = (a,1).P; A = P || P; P",
-        "P = (a,1).P; A = P || P; A",
-        "P = (a,1).P; Q = (b,1).(c,infty).Q; P",
-        "P = (a,1).P; (b,T).P",
+        // Each of two activities has its share of the lesser apparent rate.
+        (
+            "P = (a,2).P; Q = (a,3).Q1 + (a,1).Q2; Q1 = (b,1).Q; Q2 = (b,1).Q; P <a> Q",
+            0,
+            "a 3/2 P <a> Q1\na 1/2 P <a> Q2\n",
+            "",
+        ),
+        // Weights share an active rate.
+        (
+            "P = (a,6).P; Q = (a,infty).Q + (a,2*infty).Q; P <a> Q",
+            0,
+            "a 2 P <a> Q\na 4 P <a> Q\n",
+            "",
+        ),
+        (
+            "P = (a,2).P; Q = (a,infty).Q; (P || P) <a> Q",
+            0,
+            "a 2 P || P <a> Q\na 2 P || P <a> Q\n",
+            "",
+        ),
+        // The left side moves before the right one.
+        (
+            "P = (a,1).Q; Q = (b,3/2).P; P || Q",
+            0,
+            "a 1 Q || Q\nb 3/2 P || P\n",
+            "",
+        ),
+        // A hidden type is `tau`, and no partner of a type outside.
+        ("P = (a,2).P; P/{a}", 0, "tau 2 P/{a}\n", ""),
+        (
+            "P = (a,2).P; Q = (a,3).Q; P/{a} <a> Q",
+            0,
+            "tau 2 P/{a} <a> Q\n",
+            "",
+        ),
+        // A compound constant is its system, and a cooperation stands in brackets on the right.
+        (
+            "P = (a,1).P; A = P <a> P; P || A",
+            0,
+            "a 1 P || (P <a> P)\na 1 P || (P <a> P)\n",
+            "",
+        ),
+        (
+            "P = (a,1).P; (P || (b,2).P)/{b}",
+            0,
+            "a 1 (P || (b, 2).P)/{b}\ntau 2 (P || P)/{b}\n",
+            "",
+        ),
+        // An active and a passive rate of one type have no sum.
+        (
+            "P = (a,1).P; Q = (a,infty).Q; P || Q",
+            6,
+            "",
+            "stopped: mixed\n",
+        ),
+        // The sum of both sides passes the range; so does a joint rate.
+        (
+            "P = (a,4398046511103).P; P || P",
+            6,
+            "",
+            "stopped: overflow\n",
+        ),
+        (
+            "P = (a,1).P + (a,4398046511101).P; Q = (a,1).Q + (a,4398046511100).Q; P <a> Q",
+            6,
+            "",
+            "stopped: overflow\n",
+        ),
     ];
-    for input in table {
-        let row = (input, 3, "", "model 1:1 unsupported\n");
-        assert!(rt; is_answered(rt.alloc(), "steps", &row)?, "{input}");
+    for row in table {
+        assert!(rt; is_answered(rt.alloc(), "steps", &row)?, "{}", row.0);
     }
     Ok(())
 }
