@@ -4,3 +4,13 @@ pub mod ApparentRates
 pub mod ComponentRates
 pub mod RateMaps
 pub mod EitherOrder
+pub mod LeafLemmas
+pub mod OneState
+pub mod OneVerdict
+pub mod ElementsOf
+pub mod DerivedLists
+pub mod RatedMoves
+pub mod LeafLists
+pub mod CoopLists
+pub mod StateLists
+pub mod WithoutTau
