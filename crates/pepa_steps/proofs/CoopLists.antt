@@ -262,14 +262,20 @@ module _ (definitions : List Definition) (s t : OpenState) (set : List ℕ) (lef
 
   both_concluded : (u v : Derived) → Among u left.all → Among v right.all → has set u.transition.action ≡ true → u.transition.action ≡ v.transition.action
       → Concludes definitions (OnBoth u.derivation v.derivation) (Cooperating (closed_state s) (closed_state t) set)
-        (joint_move set (rate_of (apparent_in s u.transition.action)) (rate_of (apparent_in t u.transition.action)) u.transition v.transition)
+      (joint_move set (rate_of (apparent_in s u.transition.action)) (rate_of (apparent_in t u.transition.action)) u.transition v.transition)
   both_concluded u v among_u among_v within same =
       let a : ℕ = u.transition.action in
       let (r, rated) = rated_s u.transition (moves_have s left u among_u) within in
       let (r', rated') = rated_t v.transition (moves_have t right v among_v) (subst (λ (n : ℕ). has set n ≡ true) same within) in
-      let rated'' : apparent_in t a ≡ Rated r' = subst (λ (n : ℕ). apparent_in t n ≡ Rated r') (sym same) rated' in
-      (u.transition, v.transition, left.concluded u among_u, right.concluded v among_v, within, sym same,
-       (rate_of (apparent_in s a), rate_of (apparent_in t a), (s, opens_s, rate_is (apparent_in s a) r rated), (t, opens_t, rate_is (apparent_in t a) r' rated''), refl))
+      let rated'' : apparent_in t a ≡ Rated r' = subst (λ (n : ℕ). apparent_in t n ≡ Rated r') (sym same) rated' in (
+        u.transition,
+        v.transition,
+        left.concluded u among_u,
+        right.concluded v among_v,
+        within,
+        sym same,
+        (rate_of (apparent_in s a), rate_of (apparent_in t a), (s, opens_s, rate_is (apparent_in s a) r rated), (t, opens_t, rate_is (apparent_in t a) r' rated''), refl),
+      )
 
   joint_concluded : (p : Derived) → IsJoint definitions s t set left right p → Sound p
   joint_concluded p h = subst Sound (sym h.other.is) (both_concluded h.from h.other.from h.among h.other.among h.passes h.other.same)

@@ -8,7 +8,7 @@ pub all_append : {P : Type 0} (Fine : P → Type 0) (xs ys : List P) → AllByRe
 all_append Fine [] ys h k = k
 all_append Fine (x ∷ xs) ys h k = (h.0, all_append Fine xs ys h.1 k)
 
-all_front : {P : Type 0} (Fine : P → Type 0) (xs ys : List P) → AllByRecursion Fine (xs ++ ys) → AllByRecursion Fine ys
+pub all_front : {P : Type 0} (Fine : P → Type 0) (xs ys : List P) → AllByRecursion Fine (xs ++ ys) → AllByRecursion Fine ys
 all_front Fine [] ys h = h
 all_front Fine (x ∷ xs) ys h = all_front Fine xs ys h.1
 

@@ -4,6 +4,10 @@ pub mod ApparentRates
 pub mod ComponentRates
 pub mod RateMaps
 pub mod EitherOrder
+pub mod MappedRates
+pub mod OutsideRates
+pub mod StateOpens
+pub mod StateApparent
 pub mod LeafLemmas
 pub mod OneState
 pub mod OneVerdict
@@ -14,3 +18,12 @@ pub mod LeafLists
 pub mod CoopLists
 pub mod StateLists
 pub mod WithoutTau
+pub mod TakenSteps
+pub mod JointLists
+pub mod NodeLists
+pub mod CoopStates
+pub mod CooperationParts
+pub mod LeafParts
+pub mod StateParts
+pub mod TermParts
+pub mod TermSteps

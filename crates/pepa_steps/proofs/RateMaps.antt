@@ -23,25 +23,25 @@ pub record LoopKeeps (left right all rest : List (ℕ × Rate)) : Type 0 where
   pub fine : AllFine all
   pub ascending : IsStrictlySortedBy nat_cmp (map (λ e. e.0) rest)
 
-together-NoRate : (x : Apparent) → together x NoRate ≡ x
+pub together-NoRate : (x : Apparent) → together x NoRate ≡ x
 together-NoRate NoRate = refl
 together-NoRate (Rated r) = refl
 together-NoRate Undefined = refl
 
 -- a look-up for an action, in entries that begin with another's or its own
-at_other : (other action : ℕ) (rate : Rate) (rest : List (ℕ × Rate)) → is_eq (nat_cmp other action) ≡ false → rate_in ((action, rate) ∷ rest) other ≡ rate_in rest other
+pub at_other : (other action : ℕ) (rate : Rate) (rest : List (ℕ × Rate)) → is_eq (nat_cmp other action) ≡ false → rate_in ((action, rate) ∷ rest) other ≡ rate_in rest other
 at_other other action rate rest apart = ap (λ (b : Bool). apparent_of (cond b (Some rate) (lookup (is_at (nat_cmp other)) rest))) apart
 
-at_own : (action : ℕ) (rate : Rate) (rest : List (ℕ × Rate)) → is_eq (nat_cmp action action) ≡ true → rate_in ((action, rate) ∷ rest) action ≡ Rated rate
+pub at_own : (action : ℕ) (rate : Rate) (rest : List (ℕ × Rate)) → is_eq (nat_cmp action action) ≡ true → rate_in ((action, rate) ∷ rest) action ≡ Rated rate
 at_own action rate rest same = ap (λ (b : Bool). apparent_of (cond b (Some rate) (lookup (is_at (nat_cmp action)) rest))) same
 
-same_action : (a : ℕ) → is_eq (nat_cmp a a) ≡ true
+pub same_action : (a : ℕ) → is_eq (nat_cmp a a) ≡ true
 same_action a = ap is_eq (sym (nat_cmp_is a a Equal refl))
 
-below_action : (a b : ℕ) → a < b → is_eq (nat_cmp a b) ≡ false
+pub below_action : (a b : ℕ) → a < b → is_eq (nat_cmp a b) ≡ false
 below_action a b h = ap is_eq (sym (nat_cmp_is a b Less h))
 
-above_action : (a b : ℕ) → b < a → is_eq (nat_cmp a b) ≡ false
+pub above_action : (a b : ℕ) → b < a → is_eq (nat_cmp a b) ≡ false
 above_action a b h = ap is_eq (sym (nat_cmp_is a b Greater h))
 
 less_from : (a b : ℕ) → nat_cmp a b ≡ Less → a < b
@@ -70,7 +70,7 @@ none_before : (a k : ℕ) (rate : Rate) (rest : List (ℕ × Rate)) → a < k �
 none_before a k rate rest lt h =
     none_below a ((k, rate) ∷ rest) (lt, above_lesser a k (map (λ e. e.0) rest) lt (above_head k (map (λ e. e.0) rest) (sorted_head nat_cmp k (map (λ e. e.0) rest) h)))
 
-none_behind : (k : ℕ) (rest : List (ℕ × Rate)) → IsStrictlySortedBy nat_cmp (k ∷ map (λ e. e.0) rest) → rate_in rest k ≡ NoRate
+pub none_behind : (k : ℕ) (rest : List (ℕ × Rate)) → IsStrictlySortedBy nat_cmp (k ∷ map (λ e. e.0) rest) → rate_in rest k ≡ NoRate
 none_behind k rest h = none_below k rest (above_head k (map (λ e. e.0) rest) (sorted_head nat_cmp k (map (λ e. e.0) rest) h))
 
 module _ (left right all : List (ℕ × Rate)) (action : ℕ) (rate : Rate) (rest : List (ℕ × Rate)) where

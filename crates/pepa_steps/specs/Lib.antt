@@ -5,7 +5,9 @@ pub mod StateVerdict
 pub mod ApparentAnswers
 pub mod ActionRates
 pub mod StateRates
+pub mod CooperationRates
 pub mod StepNodes
+pub mod Partners
 pub mod StepsAnswers
 pub mod PartAnswers
 pub mod JointSteps

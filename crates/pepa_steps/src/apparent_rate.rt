@@ -40,7 +40,8 @@ fn term_rate(model: &Model, term: &Term, action: u32) -> Result<Option<Rate>, Ra
         }
         Term::Hide(inner, set) => {
             let inner = term_rate(model, inner, action)?;
-            Ok(inner.filter(|_| !is_in(types_of(model, *set), action)))
+            let hidden = is_in(types_of(model, *set), action);
+            Ok(if hidden { None } else { inner })
         }
     }
 }

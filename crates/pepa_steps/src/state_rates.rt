@@ -1,6 +1,7 @@
 //! The apparent rates of cooperations and hidings by action type, from those of their parts.
-ghost use Rattle.pepa_steps.specs.ActionRates.{AllFine};
+ghost use Rattle.pepa_steps.specs.ActionRates.{AllFine, AnswersChoice};
 ghost use Rattle.pepa_steps.specs.StateRates.{AnswersRatesBy, rates_of_cooperation, rates_of_hiding};
+ghost use Rattle.pepa_steps.specs.CooperationRates.{AnswersSetting, MakesRates, rates_of_left, outside};
 
 use crate::action_rates::{RatesEnd, add_rate};
 use crate::sets::is_in;
@@ -20,13 +21,8 @@ pub(crate) fn cooperation_rates(
     requires right_fine { AllFine right.now.entries }
     ensures { AnswersRatesBy (rates_of_cooperation types.now left.now.entries right.now.entries) result }
 {
-    let mut all = left_rates(alloc, types, left, right)?;
-    for (action, rate) in right {
-        if !is_in(types, *action) {
-            add_rate(&mut all, *action, rate)?;
-        }
-    }
-    Ok(all)
+    let first = left_rates(alloc, types, left, right)?;
+    add_outside(types, first, right)
 }
 
 // The rates of the left side by types outside the set, and the lesser of both sides' by types in it.
@@ -35,14 +31,35 @@ fn left_rates(
     types: &[u32],
     left: &BTreeMap<u32, Rate>,
     right: &BTreeMap<u32, Rate>,
-) -> Result<BTreeMap<u32, Rate>, RatesEnd> {
+) -> Result<BTreeMap<u32, Rate>, RatesEnd>
+    requires left_fine { AllFine left.now.entries }
+    requires right_fine { AllFine right.now.entries }
+    ensures { MakesRates (rates_of_left types.now left.now.entries right.now.entries) result }
+{
     let mut all = BTreeMap::new(alloc);
     for (action, rate) in left {
         if !is_in(types, *action) {
-            all.insert(*action, *rate).map_err(|_| RatesEnd::Memory)?;
+            set_rate(&mut all, *action, *rate)?;
         } else if let Some(other) = right.get(action) {
-            all.insert(*action, rate.least(other))
-                .map_err(|_| RatesEnd::Memory)?;
+            set_rate(&mut all, *action, rate.least(other))?;
+        }
+    }
+    Ok(all)
+}
+
+// The first rates with the others by types outside the set added.
+fn add_outside(
+    types: &[u32],
+    first: BTreeMap<u32, Rate>,
+    others: &BTreeMap<u32, Rate>,
+) -> Result<BTreeMap<u32, Rate>, RatesEnd>
+    requires { AllFine first.entries }
+    ensures { AnswersChoice first.entries (outside types.now others.now.entries) result }
+{
+    let mut all = first;
+    for (action, rate) in others {
+        if !is_in(types, *action) {
+            add_rate(&mut all, *action, rate)?;
         }
     }
     Ok(all)
@@ -60,8 +77,16 @@ pub(crate) fn hiding_rates(
     let mut seen = BTreeMap::new(alloc);
     for (action, rate) in inner {
         if !is_in(types, *action) {
-            seen.insert(*action, *rate).map_err(|_| RatesEnd::Memory)?;
+            set_rate(&mut seen, *action, *rate)?;
         }
     }
     Ok(seen)
+}
+
+// Gives an action this rate.
+fn set_rate(rates: &mut BTreeMap<u32, Rate>, action: u32, rate: Rate) -> Result<(), RatesEnd>
+    ensures { AnswersSetting rates.old.entries rates.new.entries action rate result }
+{
+    rates.insert(action, rate).map_err(|_| RatesEnd::Memory)?;
+    Ok(())
 }

@@ -2,8 +2,9 @@
 ghost use Rattle.std.specs.Prelude.{◌≡◌, ◌<◌, ◌≤◌, ◌++◌, ◌^◌, map, length, OnOk, IfOk};
 ghost use Rattle.pepa_rates.specs.Share.{SameKind};
 ghost use Rattle.pepa_model.specs.Terms.{CoopNode, term_of};
-ghost use Rattle.pepa_steps.specs.StepNodes.{step_nodes, alone, left_node, right_node, step_node, hidden_node, joint_node, joint_nodes, AreRated};
-ghost use Rattle.pepa_steps.specs.JointSteps.{AddsJoint, IsJointStep, HasPartners, pair_count};
+ghost use Rattle.pepa_steps.specs.StepNodes.{step_nodes, alone, left_node, right_node, step_node, hidden_node, joint_node, joined_to, joint_nodes, AreRated};
+ghost use Rattle.pepa_steps.specs.JointSteps.{AddsJoint, IsJointStep, HasPartners, pair_count, places_from};
+ghost use Rattle.pepa_steps.specs.Partners.{AddsPartner, IsRatedIn, AreRatedFor};
 
 use crate::parts::Part;
 use crate::sets::is_in;
@@ -107,7 +108,9 @@ fn add_partner(
     partners: &mut BTreeMap<u32, Words32>,
     action: u32,
     index: u32,
-) -> Result<(), AllocError> {
+) -> Result<(), AllocError>
+    ensures { OnOk result (AddsPartner partners.old.entries partners.new.entries action index) }
+{
     if let Some(indices) = partners.get_mut(&action) {
         return indices.push(index);
     }
@@ -126,12 +129,18 @@ fn push_joint_steps(
     left: &Part,
     right: &Part,
     set: u32,
-) -> Result<(), JointEnd> {
+) -> Result<(), JointEnd>
+    requires left_rated { IsRatedIn left.now.rates.entries (step_node step.now) }
+    requires right_rated { AreRatedFor step.now.action right.now.rates.entries (step_nodes right.now.steps) }
+    requires places { indices.now ≡ places_from 0 step.now.action (step_nodes right.now.steps) }
+    ensures { AddsJoint (step_nodes list.old) (step_nodes list.new) (joined_to set left.now.rates.entries right.now.rates.entries (step_nodes right.now.steps) (step_node step.now)) result }
+{
+    // A side without an apparent rate of the action has no step by it.
     let Some(left_rate) = left.rates.get(&step.action) else {
-        unreachable!()
+        return Ok(());
     };
     let Some(right_rate) = right.rates.get(&step.action) else {
-        unreachable!()
+        return Ok(());
     };
     for index in indices.as_slice() {
         let other = &right.steps.as_slice()[*index as usize];
@@ -186,14 +195,16 @@ pub(crate) fn push_joint(
 ) -> Result<(), JointEnd>
     requires left { AreRated types.now left.now.rates.entries (step_nodes left.now.steps) }
     requires right { AreRated types.now right.now.rates.entries (step_nodes right.now.steps) }
-    ensures { AddsJoint (step_nodes list.old) (step_nodes list.new) (joint_nodes types.now set left.now.rates.entries right.now.rates.entries (step_nodes left.now.steps) (step_nodes right.now.steps)) result }
+    requires right_short { length right.now.steps ≤ 65535 }
+    ensures { AddsJoint (step_nodes list.old) (step_nodes list.new)
+        (joint_nodes types.now set left.now.rates.entries right.now.rates.entries (step_nodes left.now.steps) (step_nodes right.now.steps)) result }
 {
     let partners = partners_by_action(alloc, types, right.steps.as_slice())?;
     for step in left.steps.as_slice() {
-        if is_in(types, step.action)
-            && let Some(indices) = partners.get(&step.action)
-        {
-            push_joint_steps(alloc, list, step, indices, left, right, set)?;
+        if is_in(types, step.action) {
+            if let Some(indices) = partners.get(&step.action) {
+                push_joint_steps(alloc, list, step, indices, left, right, set)?;
+            }
         }
     }
     Ok(())
@@ -213,10 +224,10 @@ pub(crate) fn joint_count(
     let partners = partners_by_action(alloc, types, right)?;
     let mut count: u64 = 0;
     for step in left {
-        if is_in(types, step.action)
-            && let Some(indices) = partners.get(&step.action)
-        {
-            count += indices.len() as u64;
+        if is_in(types, step.action) {
+            if let Some(indices) = partners.get(&step.action) {
+                count += indices.len() as u64;
+            }
         }
     }
     Ok(count)

@@ -6,7 +6,8 @@ ghost use Rattle.pepa_steps.specs.States.{AtLeaf, state_of};
 ghost use Rattle.pepa_steps.specs.OpenStates.{OpenState, OpensState};
 ghost use Rattle.pepa_steps.specs.StepsAnswers.{IsStepsAnswer};
 ghost use Rattle.pepa_steps.specs.LeafSteps.{step_of};
-ghost use Rattle.pepa_steps.specs.PartAnswers.{AnswersPart};
+ghost use Rattle.pepa_steps.specs.StepNodes.{step_nodes};
+ghost use Rattle.pepa_steps.specs.PartAnswers.{AnswersPart, AreNodesInRange};
 
 use crate::action_rates::{RatesEnd, component_rates};
 use crate::cooperation::{cooperation_part, hiding_part};
@@ -116,17 +117,19 @@ fn leaf_part(alloc: Global, model: &Model, leaf: u32) -> Result<Part, StepsEnd>
     ensures { (tree : OpenState) → OpensState model.now.bodies (AtLeaf (slice_index_or model.now.leaves leaf (Const 0))) tree → AnswersPart model.now tree result }
 {
     model.is_sound();
-    let rates = component_rates(alloc, model, model.leaf(leaf), MAX_HEIGHT)?;
     let steps = leaf_steps(alloc, model.activities(leaf))?;
+    let rates = component_rates(alloc, model, model.leaf(leaf), MAX_HEIGHT)?;
     Ok(Part { steps, rates })
 }
 
 /// The activities of a leaf, as steps.
 fn leaf_steps(alloc: Global, activities: &[Activity]) -> Result<StepList, AllocError>
-    ensures { IfOk result (λ list. list ≡ map step_of activities.now) }
+    ensures steps { IfOk result (λ list. list ≡ map step_of activities.now) }
+    ensures in_range { IfOk result (λ list. AreNodesInRange (step_nodes list)) }
 {
     let mut list = StepList::new(alloc);
     for activity in activities {
+        activity.rate.valid();
         list.push(Step {
             action: activity.action,
             signals: 0,
