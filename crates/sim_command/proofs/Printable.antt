@@ -19,7 +19,7 @@ use Rattle.pepa_steps.specs.StateVerdict.{IsFinePart, HasFineRates}
 use Rattle.pepa_steps.specs.StepsAnswers.{IsStepsAnswer}
 use Rattle.pepa_steps.proofs.OneState.{one_list}
 use Rattle.pepa_steps.proofs.StateLists.{transition_list}
-use Rattle.pepa_steps.proofs.NoTau.{has_no_tau}
+use Rattle.pepa_steps.proofs.WithoutTau.{state_without_tau}
 use Rattle.sim_command.specs.StepsText.{CanPrint, CanPrintStep}
 
 -- ---- lists
@@ -109,7 +109,7 @@ module _ (m : PepaModel) (sound : IsModel m) where
 
   pub steps_can_print : (term : Term) (steps : List Step) → IsTermOf m term → IsStepsAnswer m (state_of m term) (Ok steps) → CanPrint m steps
   steps_can_print term steps is ((tree, opens, fine), (transitions, listed, stand)) =
-      let moves_list = transition_list m.bodies (state_of m term) tree opens (has_no_tau m sound (term_of term) tree is opens) (rates_of (parts_in tree) fine) in
+      let moves_list = transition_list m.bodies (state_of m term) tree opens (state_without_tau m sound (term_of term) tree is opens) (rates_of (parts_in tree) fine) in
       let same : transitions ≡ moves_in tree = one_list m.bodies (state_of m term) transitions (moves_in tree) listed moves_list in
       All-from_recursion (CanPrintStep m) steps
       (each_can_print steps (moves_in tree) (subst (λ (ts : List StateTransition). AllZip (StepStandsFor m) steps ts) same stand) (moves_known (term_of term) tree is opens))

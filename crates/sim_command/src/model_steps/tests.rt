@@ -9,7 +9,11 @@ fn apparent_rates(rt: HostRuntime) -> Result<(), Fail> {
     let table = [
         ("P = (a, 2).P + (b, 1).P + (a, 3).P; P", 1, Ok(Some(5))),
         ("P = (a, 2).P + (b, 1).P + (a, 3).P; P", 2, Ok(Some(1))),
-        ("P = (a, 2).P + (b, 1).P + (a, 3).P; Q = (c,1).Q; P", 3, Ok(None)),
+        (
+            "P = (a, 2).P + (b, 1).P + (a, 3).P; Q = (c,1).Q; P",
+            3,
+            Ok(None),
+        ),
         (
             "P = (a,4398046511102).P + (a,1).P; P",
             1,
@@ -22,13 +26,21 @@ fn apparent_rates(rt: HostRuntime) -> Result<(), Fail> {
         ),
         ("P = (a,infty).P + (a,2*infty).P; P", 1, Ok(Some(3))),
         // The lesser of both sides' rates, by the kinds first.
-        ("P = (a,2).P; Q = (a,3).Q + (a,1).Q; P <a> Q", 1, Ok(Some(2))),
+        (
+            "P = (a,2).P; Q = (a,3).Q + (a,1).Q; P <a> Q",
+            1,
+            Ok(Some(2)),
+        ),
         ("P = (a,6).P; Q = (a,infty).Q; P <a> Q", 1, Ok(Some(6))),
         ("P = (a,6).P; Q = (b,1).Q; P <a> Q", 1, Ok(None)),
         // The sum outside the set, and none of a hidden type.
         ("P = (a,2).P; P || P || P", 1, Ok(Some(6))),
         ("P = (a,2).P; (P || P)/{a}", 1, Ok(None)),
-        ("P = (a,1).P; Q = (a,T).Q; (P || Q)/{a}", 1, Err(RateFault::Mixed)),
+        (
+            "P = (a,1).P; Q = (a,T).Q; (P || Q)/{a}",
+            1,
+            Err(RateFault::Mixed),
+        ),
     ];
     for (input, action, want) in table {
         let model = read_model(rt.alloc(), input.as_bytes())?;
