@@ -1,5 +1,5 @@
 -- How the expressions of the program open.
-use Rattle.std.proofs.Common.{◌≡◌, ℕ, ◌-◌, ◌≤◌, List, Some, slice_get, ◌^◌, ◌∙◌, refl, ap, subst, arith}
+use Rattle.std.proofs.Common.{◌≡◌, ℕ, ◌-◌, ◌≤◌, List, Some, slice_get, ◌^◌, refl, ap, subst, arith}
 use Rattle.pepa_model.specs.Expression.{Expression, Const, Prefixed, Chosen, Definition, Defines, IsSequential}
 use Rattle.pepa_model.specs.Opened.{Opened, OpenPrefix, OpenChoice, OpenConst, Opens, height}
 use Rattle.pepa_model.specs.PepaModel.{PepaModel, IsModel}

@@ -1,7 +1,7 @@
 -- States with the constants of their sequential components opened, and what is computed along these trees.
-use Rattle.std.specs.Prelude.{◌≡◌, ◌==◌, ℕ, ◌&&◌, not, if◌then◌else◌, bit_or, List, [], ◌∷◌, ◌++◌, map, filter, flat_map}
+use Rattle.std.specs.Prelude.{◌≡◌, ◌==◌, ℕ, not, if◌then◌else◌, bit_or, List, [], ◌∷◌, ◌++◌, map, filter, flat_map}
 use Rattle.pepa_rates.specs.declared.rate.Rate.{Rate}
-use Rattle.pepa_rates.specs.declared.rate.Rate.TheVariants.{Active, Passive}
+use Rattle.pepa_rates.specs.declared.rate.Rate.TheVariants.{Passive}
 use Rattle.pepa_rates.specs.Share.{least_of, share_of}
 use Rattle.pepa_model.specs.Expression.{Expression, Const, Prefixed, Chosen, WordTerm, LeafOf, Definition}
 use Rattle.pepa_model.specs.Derivation.{Transition}

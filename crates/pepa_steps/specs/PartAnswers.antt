@@ -3,17 +3,14 @@ use Rattle.std.specs.Prelude.{◌≡◌, ℕ, ◌<◌, ◌≤◌, List, ◌++◌
 use Rattle.std.specs.List.{Contains, AllByRecursion}
 use Rattle.pepa_rates.specs.Fraction.{InRange}
 use Rattle.pepa_rates.specs.Sum.{fraction_of}
-use Rattle.pepa_rates.specs.declared.rate.Rate.{Rate}
 use Rattle.pepa_model.specs.Apparent.{Apparent, IsFine}
 use Rattle.pepa_model.specs.PepaModel.{PepaModel}
 use Rattle.pepa_model.specs.Terms.{TermNode, IsNodeOf}
 use Rattle.pepa_model.specs.Verdict.{IsFirstFault}
-use Rattle.pepa_model.specs.declared.term.Step.{Step}
-use Rattle.pepa_steps.specs.States.{StateTransition}
 use Rattle.pepa_steps.specs.OpenStates.{OpenState, parts_in, moves_in}
 use Rattle.pepa_steps.specs.StateVerdict.{PartFault, OfRates, OfLength, OfDerivation, IsFinePart, HasPartFault}
 use Rattle.pepa_steps.specs.ActionRates.{rate_in, AllFine, IsLeastFault}
-use Rattle.pepa_steps.specs.StateRates.{AreStateRates, rates_of_cooperation, rates_of_hiding}
+use Rattle.pepa_steps.specs.StateRates.{AreStateRates}
 use Rattle.pepa_steps.specs.StepNodes.{StepNode, step_nodes, node_transition, alone, left_node, right_node, joint_nodes, hidden_node}
 use Rattle.pepa_steps.specs.StepsAnswers.{fault_name}
 use Rattle.pepa_steps.specs.declared.parts.Part.{Part}

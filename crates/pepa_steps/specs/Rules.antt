@@ -1,6 +1,6 @@
 -- The rules of PEPA's operational semantics for systems (Hillston 1996, chapter 3), the derivations that they allow, and the
 -- transition list of a state.
-use Rattle.std.specs.Prelude.{◌≡◌, ℕ, Bool, true, false, ◌⊎◌, ⊤, List, [], ◌∷◌}
+use Rattle.std.specs.Prelude.{◌≡◌, ℕ, true, false, ◌⊎◌, ⊤, List, [], ◌∷◌}
 use Rattle.std.specs.List.{AllByRecursion, AllZip}
 use Rattle.pepa_rates.specs.declared.rate.Rate.{Rate}
 use Rattle.pepa_model.specs.Expression.{LeafOf, Definition}

@@ -1,10 +1,9 @@
 -- Systems in some state (J. Hillston, A Compositional Approach to Performance Modelling, 1996, chapter 3: the model components):
 -- sequential components that cooperate and hide.
-use Rattle.std.specs.Prelude.{◌≡◌, ◌==◌, ℕ, Bool, ⊤, List, [], slice_index_or}
+use Rattle.std.specs.Prelude.{◌≡◌, ◌==◌, ℕ, Bool, List, [], slice_index_or}
 use Rattle.std.specs.List.{list_any}
 use Rattle.pepa_rates.specs.declared.rate.Rate.{Rate}
-use Rattle.pepa_model.specs.Expression.{Expression, Const, LeafOf}
-use Rattle.pepa_model.specs.Derivation.{Transition}
+use Rattle.pepa_model.specs.Expression.{Expression, Const}
 use Rattle.pepa_model.specs.PepaModel.{PepaModel}
 use Rattle.pepa_model.specs.Terms.{TermNode, LeafNode, CoopNode, HideNode, term_of, IsTermOf}
 use Rattle.pepa_model.specs.declared.term.Term.{Term}

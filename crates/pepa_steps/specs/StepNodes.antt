@@ -1,11 +1,11 @@
 -- Steps without pointers, and the steps of cooperations and hidings from those of their parts.
-use Rattle.std.specs.Prelude.{◌≡◌, ◌==◌, ℕ, Bool, true, not, bit_or, if◌then◌else◌, List, ◌++◌, map, filter, flat_map, ⊤}
+use Rattle.std.specs.Prelude.{◌≡◌, ◌==◌, ℕ, true, not, bit_or, if◌then◌else◌, List, map, filter, flat_map}
 use Rattle.std.specs.List.{Contains}
 use Rattle.pepa_rates.specs.declared.rate.Rate.{Rate}
 use Rattle.pepa_rates.specs.Share.{SameKind, share_of}
 use Rattle.pepa_model.specs.Apparent.{Rated}
 use Rattle.pepa_model.specs.PepaModel.{PepaModel}
-use Rattle.pepa_model.specs.Terms.{TermNode, CoopNode, HideNode, term_of, IsNodeOf}
+use Rattle.pepa_model.specs.Terms.{TermNode, CoopNode, HideNode, term_of}
 use Rattle.pepa_model.specs.declared.term.Step.{Step}
 use Rattle.pepa_steps.specs.States.{has, StateTransition, state_transition, node_state}
 use Rattle.pepa_steps.specs.OpenStates.{rate_of}

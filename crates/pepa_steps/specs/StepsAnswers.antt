@@ -1,5 +1,5 @@
 -- What `steps` answers.
-use Rattle.std.specs.Prelude.{◌≡◌, List, map, Result, Ok, Err}
+use Rattle.std.specs.Prelude.{◌≡◌, List, Result, Ok, Err}
 use Rattle.std.specs.List.{AllZip}
 use Rattle.pepa_rates.specs.declared.rate.RateFault.TheVariants as rates
 use Rattle.pepa_model.specs.PepaModel.{PepaModel}

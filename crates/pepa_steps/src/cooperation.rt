@@ -38,34 +38,16 @@ pub(crate) fn cooperation_part(
     ensures { AnswersBy (rates_of_cooperation types.now left_part.now.rates.entries right_part.now.rates.entries) (cooperation_nodes types.now set (term_of left.now) (term_of right.now) left_part.now right_part.now) result }
 {
     let rates = cooperation_rates(alloc, types, &left_part.rates, &right_part.rates)?;
-    let alone = alone_count(types, left_part.steps.as_slice())
-        + alone_count(types, right_part.steps.as_slice());
-    let joint = joint_count(
-        alloc,
-        types,
-        left_part.steps.as_slice(),
-        right_part.steps.as_slice(),
-    )?;
+    let ours = left_part.steps.as_slice();
+    let theirs = right_part.steps.as_slice();
+    let alone = alone_count(types, ours) + alone_count(types, theirs);
+    let joint = joint_count(alloc, types, ours, theirs)?;
     if alone + joint > MOST_STEPS {
         return Err(StepsEnd::Fault(StepFault::ListTooLong));
     }
     let mut steps = StepList::new(alloc);
-    push_left(
-        alloc,
-        &mut steps,
-        left_part.steps.as_slice(),
-        right,
-        types,
-        set,
-    )?;
-    push_right(
-        alloc,
-        &mut steps,
-        right_part.steps.as_slice(),
-        left,
-        types,
-        set,
-    )?;
+    push_left(alloc, &mut steps, ours, right, types, set)?;
+    push_right(alloc, &mut steps, theirs, left, types, set)?;
     push_joint(alloc, &mut steps, left_part, right_part, types, set)?;
     Ok(Part { steps, rates })
 }
