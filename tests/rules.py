@@ -174,11 +174,12 @@ class Model:
             return [("tau" if a in part[2] else a, r, ("hide", next, part[2])) for a, r, next in self.moves(part[1])]
         _, left, right, types = part
         ours, theirs = self.moves(left), self.moves(right)
+        rates = {a: (self.apparent(left, a), self.apparent(right, a)) for a in types}
         together = []
         for a, r, p in ours:
             for b, s, q in theirs:
                 if a == b and a in types:
-                    ra, rb = self.apparent(left, a), self.apparent(right, a)
+                    ra, rb = rates[a]
                     least = min(ra, rb)
                     together.append((a, (least[0], r[1] / ra[1] * (s[1] / rb[1]) * least[1]), ("coop", p, q, types)))
         return ([(a, r, ("coop", p, right, types)) for a, r, p in ours if a not in types]

@@ -39,7 +39,7 @@ pub enum FaultName {
     Unguarded,
     /// A component has an active and a passive activity of one type.
     MixedChoice,
-    /// It isn't supported yet.
+    /// A probe line, which isn't read yet.
     Unsupported,
 }
 
@@ -71,7 +71,7 @@ pub enum Fault {
     Usage,
     /// The model's text is too long.
     TooLong,
-    /// The text is no model, or none that the command supports.
+    /// The text is no model.
     Model { place: Place, name: FaultName },
     /// A read failed.
     ReadFault,
