@@ -5,6 +5,7 @@ the program's order of work. The models are those that are given and random ones
 each the normal form is taken, which `print` gives. The first answer that differs is told with its text, and ends with a status
 of 1.
 """
+import math
 import random
 import re
 import subprocess
@@ -201,7 +202,14 @@ class Model:
     def steps(self) -> str:
         for part in self.parts(self.start):
             self.judged(part)
-        return "".join(f"{a} {rate_text(r)} {self.text(next)}\n" for a, r, next in self.moves(self.start))
+        moves = self.moves(self.start)
+        if any(rate[0] == "passive" for _, rate, _ in moves):
+            raise Stopped("passive left")
+        rates = [rate[1] for _, rate, _ in moves]
+        common = math.lcm(*(rate.denominator for rate in rates))
+        if max(common, sum(rates) * common) >= 2**62:
+            raise Stopped("weight overflow")
+        return "".join(f"{a} {rate_text(r)} {self.text(next)}\n" for a, r, next in moves)
 
     def words(self, types) -> str:
         return ",".join(a for a in self.actions if a in types)
@@ -304,7 +312,8 @@ def main(program: str, names) -> int:
             return 1
         counts[answer] = counts.get(answer, 0) + 1
     print("answers as the rules give them:", ", ".join(f"{n} {a or 'without a model'}" for a, n in sorted(counts.items())))
-    return 0 if counts.get("listed") and counts.get("stopped: mixed") and counts.get("stopped: overflow") else 1
+    wanted = ["listed", *(f"stopped: {name}" for name in ("mixed", "overflow", "passive left", "weight overflow"))]
+    return 0 if all(counts.get(it) for it in wanted) else 1
 
 
 if __name__ == "__main__":

@@ -13,3 +13,4 @@ pub mod PartAnswers
 pub mod JointSteps
 pub mod LeafSteps
 pub mod EndNames
+pub mod WholeVerdict

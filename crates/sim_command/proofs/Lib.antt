@@ -10,3 +10,4 @@ pub mod FirstTerms
 pub mod Endings
 pub mod OneAnswer
 pub mod PrintedAgain
+pub mod StepJudgements

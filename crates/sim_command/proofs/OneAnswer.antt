@@ -4,10 +4,11 @@ use Rattle.pepa_lexer.specs.declared.kinds.Place.{Place}
 use Rattle.pepa_model.specs.Expanded.{leaves_in}
 use Rattle.pepa_model.specs.PepaModel.{PepaModel}
 use Rattle.pepa_checks.proofs.OneModel.{one_model}
-use Rattle.pepa_steps.specs.States.{State}
+use Rattle.pepa_model.specs.Expression.{Definition}
+use Rattle.pepa_steps.specs.States.{State, StateTransition}
 use Rattle.pepa_steps.specs.Rules.{IsTransitionList}
-use Rattle.pepa_steps.specs.StateVerdict.{PartFault, IsVerdict, IsWithoutFault}
-use Rattle.pepa_steps.specs.StepsAnswers.{fault_name}
+use Rattle.pepa_steps.specs.StateVerdict.{IsWithoutFault}
+use Rattle.pepa_steps.specs.WholeVerdict.{HasPassive, AreWeighed, rates_of, StateStop, OfPart, OfPassive, OfWeights, IsWholeVerdict}
 use Rattle.pepa_steps.proofs.OneState.{one_list}
 use Rattle.pepa_steps.proofs.OneVerdict.{one_verdict, verdict_or_none}
 use Rattle.sim_command.specs.FirstStates.{IsFirstState, expanded_state}
@@ -21,7 +22,7 @@ use Rattle.sim_command.specs.declared.fault.Fault.TheVariants as faults
 use Rattle.sim_command.specs.TransitionsText.{transitions_text}
 use Rattle.sim_command.specs.Systems.{HasLeaves}
 use Rattle.sim_command.specs.CheckText.{counts_text, IsCheckText}
-use Rattle.sim_command.specs.ModelAnswers.{IsRefusal, IsStopped, IsListed, IsStepsAnswer, IsModelAnswer, stop_of}
+use Rattle.sim_command.specs.ModelAnswers.{IsRefusal, IsStopped, IsListed, IsStepsAnswer, IsModelAnswer, told_stop}
 use Rattle.sim_command.specs.Answer.{IsUnread, IsAnswer}
 use Rattle.sim_command.proofs.OneOutcome.{one_model_fault, model_or_fault}
 
@@ -39,12 +40,34 @@ same_refusal x y status fault h k = same_parts x y (h.status_is ∙ sym k.status
 one_first : (m : PepaModel) (p q : State) → IsFirstState m p → IsFirstState m q → p ≡ q
 one_first m p q h k = h.state_is ∙ ap (expanded_state m) (one_expansion m.bodies m.system h.tree k.tree h.expands k.expands) ∙ sym k.state_is
 
+-- a state has one stop
+module _ (definitions : List Definition) (state : State) where
+  same_passive : (ts us : List StateTransition) → IsTransitionList definitions state ts → IsTransitionList definitions state us → HasPassive (rates_of ts) → ¬ HasPassive (rates_of us) → ⊥
+  same_passive ts us h k passive active = active (subst (λ (l : List StateTransition). HasPassive (rates_of l)) (one_list definitions state ts us h k) passive)
+
+  one_stop : (s t : StateStop) → IsWholeVerdict definitions state s → IsWholeVerdict definitions state t → s ≡ t
+  one_stop (OfPart f) (OfPart g) h k = ap OfPart (one_verdict definitions state f g h k)
+  one_stop (OfPart f) OfPassive h k = absurd (verdict_or_none definitions state f h k.0)
+  one_stop (OfPart f) OfWeights h k = absurd (verdict_or_none definitions state f h k.0)
+  one_stop OfPassive (OfPart g) h k = absurd (verdict_or_none definitions state g k h.0)
+  one_stop OfWeights (OfPart g) h k = absurd (verdict_or_none definitions state g k h.0)
+  one_stop OfPassive OfPassive h k = refl
+  one_stop OfWeights OfWeights h k = refl
+  one_stop OfPassive OfWeights (fine, (ts, is, passive)) (also, (us, are, active, heavy)) = absurd (same_passive ts us is are passive active)
+  one_stop OfWeights OfPassive (fine, (ts, is, active, heavy)) (also, (us, are, passive)) = absurd (same_passive us ts are is passive active)
+
+  no_stop : (s : StateStop) (us : List StateTransition) → IsWholeVerdict definitions state s → IsWithoutFault definitions state → IsTransitionList definitions state us → ¬ HasPassive (rates_of us) → AreWeighed (rates_of us) → ⊥
+  no_stop (OfPart f) us h fine are active weighed = verdict_or_none definitions state f h fine
+  no_stop OfPassive us (also, (ts, is, passive)) fine are active weighed = same_passive ts us is are passive active
+  no_stop OfWeights us (also, (ts, is, light, heavy)) fine are active weighed =
+      heavy (subst (λ (l : List StateTransition). AreWeighed (rates_of l)) (one_list definitions state us ts are is) weighed)
+
 module _ (m : PepaModel) (x y : Answered) where
   both_stopped : IsStopped m x → IsStopped m y → x ≡ y
   both_stopped h k =
       let state = one_first m k.state h.state k.first h.first in
-      let same : h.fault ≡ k.fault = one_verdict m.bodies h.state h.fault k.fault h.verdict (subst (λ (s : State). IsVerdict m.bodies s k.fault) state k.verdict) in
-      same_refusal x y 6 (faults.StepsStopped (stop_of (fault_name k.fault))) (subst (λ (f : PartFault). IsRefusal x 6 (faults.StepsStopped (stop_of (fault_name f)))) same h.refused) k.refused
+      let same : h.stop ≡ k.stop = one_stop m.bodies h.state h.stop k.stop h.verdict (subst (λ (s : State). IsWholeVerdict m.bodies s k.stop) state k.verdict) in
+      same_refusal x y 6 (faults.StepsStopped (told_stop k.stop)) (subst (λ (s : StateStop). IsRefusal x 6 (faults.StepsStopped (told_stop s))) same h.refused) k.refused
 
   both_listed : IsListed m x → IsListed m y → x ≡ y
   both_listed h k =
@@ -52,12 +75,16 @@ module _ (m : PepaModel) (x y : Answered) where
       let same = one_list m.bodies h.state h.transitions k.transitions h.derived (subst (λ (s : State). IsTransitionList m.bodies s k.transitions) state k.derived) in
       same_parts x y (h.status_is ∙ sym k.status_is) (h.out_is ∙ ap (transitions_text m) same ∙ sym k.out_is) (h.line_is ∙ sym k.line_is)
 
+  -- a state that is stopped isn't listed
+  apart : (a b : Answered) → IsStopped m a → IsListed m b → ⊥
+  apart a b h k =
+      let state : k.state ≡ h.state = one_first m k.state h.state k.first h.first in
+      no_stop m.bodies h.state h.stop k.transitions h.verdict (subst (IsWithoutFault m.bodies) state k.fine) (subst (λ (s : State). IsTransitionList m.bodies s k.transitions) state k.derived) k.active k.weighed
+
   one_steps_answer : IsStepsAnswer m x → IsStepsAnswer m y → x ≡ y
   one_steps_answer (inl h) (inl k) = both_stopped h k
-  one_steps_answer (inl h) (inr k) =
-      absurd (verdict_or_none m.bodies h.state h.fault h.verdict (subst (IsWithoutFault m.bodies) (one_first m k.state h.state k.first h.first) k.fine))
-  one_steps_answer (inr h) (inl k) =
-      absurd (verdict_or_none m.bodies k.state k.fault k.verdict (subst (IsWithoutFault m.bodies) (one_first m h.state k.state h.first k.first) h.fine))
+  one_steps_answer (inl h) (inr k) = absurd (apart x y h k)
+  one_steps_answer (inr h) (inl k) = absurd (apart y x k h)
   one_steps_answer (inr h) (inr k) = both_listed h k
 
 one_count : (m : PepaModel) (i j : ℕ) → HasLeaves m i → HasLeaves m j → i ≡ j

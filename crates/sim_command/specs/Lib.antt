@@ -10,3 +10,4 @@ pub mod Answer
 pub mod TopCall
 pub mod ShortTexts
 pub mod FirstStates
+pub mod Judgements

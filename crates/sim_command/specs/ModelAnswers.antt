@@ -3,7 +3,8 @@ use Rattle.std.specs.Prelude.{◌≡◌, ℕ, List, [], ◌⊎◌}
 use Rattle.pepa_model.specs.PepaModel.{PepaModel}
 use Rattle.pepa_steps.specs.States.{State, StateTransition}
 use Rattle.pepa_steps.specs.Rules.{IsTransitionList}
-use Rattle.pepa_steps.specs.StateVerdict.{PartFault, IsWithoutFault, IsVerdict}
+use Rattle.pepa_steps.specs.StateVerdict.{IsWithoutFault}
+use Rattle.pepa_steps.specs.WholeVerdict.{HasPassive, AreWeighed, rates_of, StateStop, OfPart, OfPassive, OfWeights, IsWholeVerdict}
 use Rattle.pepa_steps.specs.StepsAnswers.{fault_name}
 use Rattle.pepa_steps.specs.declared.transitions.StepFault.{StepFault}
 use Rattle.pepa_steps.specs.declared.transitions.StepFault.TheVariants as named
@@ -34,21 +35,29 @@ stop_of named.Mixed = stops.Mixed
 stop_of named.Overflow = stops.Overflow
 stop_of named.ListTooLong = stops.ListTooLong
 
--- status 6: the verdict on the first state names a fault
+-- the stop by which a state's verdict is told
+abbrev pub told_stop : StateStop → Stop
+told_stop (OfPart fault) = stop_of (fault_name fault)
+told_stop OfPassive = stops.PassiveLeft
+told_stop OfWeights = stops.WeightOverflow
+
+-- status 6: the verdict on the first state names a stop
 pub record IsStopped (m : PepaModel) (answered : Answered) : Type 0 where
   pub state : State
   pub first : IsFirstState m state
-  pub fault : PartFault
-  pub verdict : IsVerdict m.bodies state fault
-  pub refused : IsRefusal answered 6 (faults.StepsStopped (stop_of (fault_name fault)))
+  pub stop : StateStop
+  pub verdict : IsWholeVerdict m.bodies state stop
+  pub refused : IsRefusal answered 6 (faults.StepsStopped (told_stop stop))
 
--- status 0: the first state has no fault, and its transition list is written, a line for each derivation
+-- status 0: the verdict on the first state names none, and its transition list is written, a line for each derivation
 pub record IsListed (m : PepaModel) (answered : Answered) : Type 0 where
   pub state : State
   pub first : IsFirstState m state
   pub fine : IsWithoutFault m.bodies state
   pub transitions : List StateTransition
   pub derived : IsTransitionList m.bodies state transitions
+  pub active : ¬ HasPassive (rates_of transitions)
+  pub weighed : AreWeighed (rates_of transitions)
   pub status_is : answered.status ≡ 0
   pub out_is : answered.out ≡ transitions_text m transitions
   pub line_is : answered.line ≡ []

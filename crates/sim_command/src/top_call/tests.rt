@@ -1,7 +1,9 @@
 //! The whole call over devices in memory.
 use super::*;
+use crate::answer::answer_steps;
 use sim_outside::{MemSink, MemSource};
 use std::alloc::AllocError;
+use std::fmt::Write;
 use std::test::Fail;
 
 /// The devices of a call: the numbers of the reads and writes that fail, from 1, and the room of the output.
@@ -121,6 +123,72 @@ fn steps_of_models(rt: HostRuntime) -> Result<(), Fail> {
     Ok(())
 }
 
+// What systems below are made of: P and Q have no sum of `a`, two Rs pass the range of `b`, two Ts have 65,536 ways to do `c`
+// together, a joint rate of U and V passes its range, and the denominators of W and X come to too large a common one.
+const STOPPING: &str = "P=(a,1).P; Q=(a,infty).Q; R=(b,4398046511103).R;\
+    A=(c,1).A; B=A+A; C=B+B; D=C+C; E=D+D; F=E+E; G=F+F; H=G+G; T=H+H;\
+    U=(d,1).U+(d,4398046511101).U; V=(d,1).V+(d,4398046511100).V;\
+    W=(e,1/4398046511103).W; X=(f,1/4398046511101).X;\
+    Y=(g,4398046511103).Y+(h,1).Y; Z=(g,1).Z+(h,infty).Z;\
+    I=(i,1).I+(j,4398046511103).I; J=(i,infty).J+(j,1).J;";
+
+#[test]
+fn stops_in_order(rt: HostRuntime) -> Result<(), Fail> {
+    let table = [
+        // Of two parts the earlier one is told.
+        ("(P || Q) || (R || R)", "mixed"),
+        ("(R || R) || (P || Q)", "overflow"),
+        ("(P || Q) || (T <c> T)", "mixed"),
+        ("(T <c> T) || (P || Q)", "list too long"),
+        ("(P || Q) || (U <d> V)", "mixed"),
+        ("(U <d> V) || (P || Q)", "overflow"),
+        ("(R || R) || (T <c> T)", "overflow"),
+        ("(T <c> T) || (R || R)", "list too long"),
+        ("(U <d> V) || (T <c> T)", "overflow"),
+        ("(T <c> T) || (U <d> V)", "list too long"),
+        // Of one part, the least action type, then the count, then the derivations' rates.
+        ("Y || Z", "overflow"),
+        ("I || J", "mixed"),
+        ("(T || P) <c> (T || Q)", "mixed"),
+        ("(T || R) <c> (T || R)", "overflow"),
+        ("(T || U) <c,d> (T || V)", "list too long"),
+        // The parts go before the whole, and passive rates before weights.
+        ("Q || (R || R)", "overflow"),
+        ("Q || (T <c> T)", "list too long"),
+        ("Q || (U <d> V)", "overflow"),
+        ("(W || X) || (P || Q)", "mixed"),
+        ("(W || X) || (U <d> V)", "overflow"),
+        ("Q || W || X", "passive left"),
+        ("W || X", "weight overflow"),
+    ];
+    for (system, stop) in table {
+        let mut text = String::from_str(rt.alloc(), STOPPING)?;
+        write!(text, "{system}")?;
+        let mut line = String::new(rt.alloc());
+        write!(line, "stopped: {stop}\n")?;
+        let answer = answer_steps(rt.alloc(), text.as_bytes())?;
+        assert_eq!(rt; answer.line.as_slice(), line.as_bytes(), "{system}");
+        assert_eq!(rt; answer.status, 6);
+    }
+    Ok(())
+}
+
+// 255 ways meet 257, which are 65,535.
+#[test]
+fn longest_list(rt: HostRuntime) -> Result<(), Fail> {
+    let mut text = String::from_str(rt.alloc(), STOPPING)?;
+    write!(text, "(H+G+F+E+D+C+B+A) <c> (T+A)")?;
+    let answer = answer_steps(rt.alloc(), text.as_bytes())?;
+    let mut count: u64 = 0;
+    for byte in answer.out.as_slice() {
+        if *byte == b'\n' && count < 100_000 {
+            count += 1;
+        }
+    }
+    assert_eq!(rt; (answer.status, count), (0, 65_535));
+    Ok(())
+}
+
 #[test]
 fn steps_of_systems(rt: HostRuntime) -> Result<(), Fail> {
     let table = [
@@ -179,6 +247,22 @@ fn steps_of_systems(rt: HostRuntime) -> Result<(), Fail> {
             "",
             "stopped: mixed\n",
         ),
+        // A passive rate that no active one drives, and weights that pass their range.
+        ("P = (a,infty).P; P", 6, "", "stopped: passive left\n"),
+        (
+            "P = (a,infty).P; Q = (b,1).Q; P || Q",
+            6,
+            "",
+            "stopped: passive left\n",
+        ),
+        (
+            "P = (a, 1/4398046511103).P + (b, 1/4398046511101).P; P",
+            6,
+            "",
+            "stopped: weight overflow\n",
+        ),
+        // Nothing at all can be done.
+        ("P = (a,1).P; Q = (b,1).Q; P <a,b> Q", 0, "", ""),
         // The sum of both sides passes the range; so does a joint rate.
         (
             "P = (a,4398046511103).P; P || P",
