@@ -3,7 +3,7 @@ use Rattle.std.proofs.Common.{◌≡◌, ◌==◌, ℕ, ◌+◌, ◌*◌, ◌<�
 use Rattle.std.proofs.Common.{refl, ap, subst, ◌∙◌, arith, length-append}
 use Rattle.std.specs.List.{AllByRecursion}
 use Rattle.std.specs.BTreeMap.{BTreeMap}
-use Rattle.std.proofs.lemmas.List.{length-map}
+use Rattle.std.proofs.lemmas.List.{length-map, map-append}
 use Rattle.std.proofs.lemmas.List.Sums.{sum_by-cons, length-filter, count_by-le-length}
 use Rattle.std.proofs.lemmas.List.Concat.{length-flat_map}
 use Rattle.pepa_rates.specs.Fraction.{InRange}
@@ -15,7 +15,7 @@ use Rattle.pepa_model.specs.Terms.{TermNode}
 use Rattle.pepa_model.specs.declared.term.Step.{Step}
 use Rattle.pepa_steps.specs.States.{has}
 use Rattle.pepa_steps.specs.StateVerdict.{OfRates, OfLength, OfDerivation}
-use Rattle.pepa_steps.specs.StepNodes.{StepNode, step_nodes, alone, left_node, right_node, hidden_node, joined_to, joint_nodes}
+use Rattle.pepa_steps.specs.StepNodes.{StepNode, step_node, step_nodes, alone, left_node, right_node, hidden_node, joined_to, joint_nodes}
 use Rattle.pepa_steps.specs.StateRates.{AnswersRatesBy}
 use Rattle.pepa_steps.specs.JointSteps.{pair_count, AddsJoint}
 use Rattle.pepa_steps.specs.PartAnswers.{AreNodesInRange, AnswersBy, IsFoundBy, cooperation_nodes}
@@ -145,19 +145,20 @@ joined_lists first second third front lefts rights joints e f g h =
     h ∙ ap (λ l. l ++ joints) (g ∙ ap (λ l. l ++ rights) (f ∙ ap (λ l. l ++ lefts) e))
 
 -- the whole list, from what each call added
-pub all_nodes : (types : List ℕ) (set : ℕ) (left right : TermNode) (l r : Part) (xs ys front first second third : List Step) → xs ≡ l.steps.items → ys ≡ r.steps.items → front ≡ []
-    → step_nodes first ≡ step_nodes front ++ map (left_node right set) (alone types (step_nodes xs))
-    → step_nodes second ≡ step_nodes first ++ map (right_node left set) (alone types (step_nodes ys))
-    → step_nodes third ≡ step_nodes second ++ joint_nodes types set l.rates.entries r.rates.entries (step_nodes l.steps.items) (step_nodes r.steps.items)
+pub all_nodes : (types : List ℕ) (set : ℕ) (left right : TermNode) (l r : Part) (front first second start joints third : List Step) → front ≡ [] → start ≡ []
+    → step_nodes first ≡ step_nodes front ++ map (left_node right set) (alone types (step_nodes l.steps.items))
+    → step_nodes second ≡ step_nodes first ++ map (right_node left set) (alone types (step_nodes r.steps.items))
+    → step_nodes joints ≡ step_nodes start ++ joint_nodes types set l.rates.entries r.rates.entries (step_nodes l.steps.items) (step_nodes r.steps.items)
+    → third ≡ second ++ joints
     → step_nodes third ≡ cooperation_nodes types set left right l r
-all_nodes types set left right l r xs ys front first second third same_left same_right e f g h =
+all_nodes types set left right l r front first second start joints third none none_joint f g h e =
+    let both = joint_nodes types set l.rates.entries r.rates.entries (step_nodes l.steps.items) (step_nodes r.steps.items) in
     joined_lists (step_nodes first) (step_nodes second) (step_nodes third) (step_nodes front) (map (left_node right set) (alone types (step_nodes l.steps.items)))
-    (map (right_node left set) (alone types (step_nodes r.steps.items)))
-    (joint_nodes types set l.rates.entries r.rates.entries (step_nodes l.steps.items) (step_nodes r.steps.items))
-    (ap step_nodes e)
-    (f ∙ ap (λ (s : List Step). step_nodes front ++ map (left_node right set) (alone types (step_nodes s))) same_left)
-    (g ∙ ap (λ (s : List Step). step_nodes first ++ map (right_node left set) (alone types (step_nodes s))) same_right)
-    h
+    (map (right_node left set) (alone types (step_nodes r.steps.items))) both
+    (ap step_nodes none)
+    f
+    g
+    (ap step_nodes e ∙ map-append step_node second joints ∙ ap (λ (us : List StepNode). step_nodes second ++ us) (h ∙ ap (λ (s : List Step). step_nodes s ++ both) none_joint))
 
 -- their rates are in range, where those of the joint ones are
 pub cooperation_range : (types : List ℕ) (set : ℕ) (left right : TermNode) (l r : Part) → AreNodesInRange (step_nodes l.steps.items) → AreNodesInRange (step_nodes r.steps.items)
