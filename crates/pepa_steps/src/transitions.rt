@@ -127,7 +127,7 @@ fn leaf_steps(alloc: Global, activities: &[Activity]) -> Result<Vec<Step>, Alloc
     ensures steps { IfOk result (λ list. list.items ≡ map step_of activities.now) }
     ensures in_range { IfOk result (λ list. AreNodesInRange (step_nodes list.items)) }
 {
-    let mut list = Vec::new(alloc);
+    let mut list: Vec<Step> = Vec::new(alloc);
     for activity in activities {
         activity.rate.valid();
         list.push(Step {
