@@ -1,5 +1,6 @@
 //! Cooperations and hidings, from what is found of their parts.
 ghost use Rattle.std.specs.Prelude.{◌≡◌, ◌≤◌, length};
+ghost use Rattle.std.specs.List.Sorted.{IsStrictlyIncreasing};
 ghost use Rattle.pepa_model.specs.Terms.{term_of};
 ghost use Rattle.pepa_steps.specs.ActionRates.{AllFine};
 ghost use Rattle.pepa_steps.specs.StateRates.{rates_of_cooperation, rates_of_hiding};
@@ -27,6 +28,7 @@ pub(crate) fn cooperation_part(
     left_part: Part,
     right_part: Part,
 ) -> Result<Part, StepsEnd>
+    requires ascends { IsStrictlyIncreasing types.now }
     requires left_fine { AllFine left_part.rates.entries }
     requires right_fine { AllFine right_part.rates.entries }
     requires left_rated { AreRated types.now left_part.rates.entries (step_nodes left_part.steps.items) }
@@ -56,7 +58,8 @@ pub(crate) fn cooperation_part(
 
 /// How many steps are by types outside the set.
 fn alone_count(types: &[u32], steps: &[Step]) -> u64
-    requires { length steps.now ≤ 65535 }
+    requires ascends { IsStrictlyIncreasing types.now }
+    requires short { length steps.now ≤ 65535 }
     ensures { result ≡ length (alone types.now (step_nodes steps.now)) }
 {
     let mut count: u64 = 0;
@@ -75,6 +78,7 @@ pub(crate) fn hiding_part(
     set: u32,
     inner: Part,
 ) -> Result<Part, StepsEnd>
+    requires ascends { IsStrictlyIncreasing types.now }
     requires fine { AllFine inner.rates.entries }
     requires short { length inner.steps.items ≤ 65535 }
     requires in_range { AreNodesInRange (step_nodes inner.steps.items) }

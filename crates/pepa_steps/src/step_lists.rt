@@ -1,5 +1,6 @@
 //! The steps of cooperations and hidings, from those of their parts.
 ghost use Rattle.std.specs.Prelude.{◌≡◌, ◌<◌, ◌≤◌, [], ◌∷◌, ◌++◌, ◌^◌, map, length, OnOk, IfOk};
+ghost use Rattle.std.specs.List.Sorted.{IsStrictlyIncreasing};
 ghost use Rattle.pepa_rates.specs.Share.{SameKind};
 ghost use Rattle.pepa_model.specs.Terms.{CoopNode, term_of};
 ghost use Rattle.pepa_steps.specs.StepNodes.{step_nodes, alone, left_node, right_node, step_node, hidden_node, joint_node, joined_to, joint_nodes, AreRated};
@@ -43,6 +44,7 @@ pub(crate) fn push_left(
     types: &[u32],
     set: u32,
 ) -> Result<(), AllocError>
+    requires ascends { IsStrictlyIncreasing types.now }
     ensures { OnOk result (step_nodes list.new.items ≡ step_nodes list.old.items ++ map (left_node (term_of right.now) set) (alone types.now (step_nodes steps.items))) }
 {
     for step in steps {
@@ -76,6 +78,7 @@ pub(crate) fn push_right(
     types: &[u32],
     set: u32,
 ) -> Result<(), AllocError>
+    requires ascends { IsStrictlyIncreasing types.now }
     ensures { OnOk result (step_nodes list.new.items ≡ step_nodes list.old.items ++ map (right_node (term_of left.now) set) (alone types.now (step_nodes steps.items))) }
 {
     for step in steps {
@@ -106,7 +109,8 @@ fn partners_by_action(
     types: &[u32],
     steps: &[Step],
 ) -> Result<BTreeMap<u32, Words32>, AllocError>
-    requires { length steps.now ≤ 65535 }
+    requires ascends { IsStrictlyIncreasing types.now }
+    requires short { length steps.now ≤ 65535 }
     ensures { IfOk result (λ partners. HasPartners types.now (step_nodes steps.now) partners.entries) }
 {
     let mut partners: BTreeMap<u32, Words32> = BTreeMap::new(alloc);
@@ -217,6 +221,7 @@ pub(crate) fn push_joint(
     types: &[u32],
     set: u32,
 ) -> Result<(), JointEnd>
+    requires ascends { IsStrictlyIncreasing types.now }
     requires left { AreRated types.now left.now.rates.entries (step_nodes left.now.steps.items) }
     requires right { AreRated types.now right.now.rates.entries (step_nodes right.now.steps.items) }
     requires right_short { length right.now.steps.items ≤ 65535 }
@@ -241,6 +246,7 @@ pub(crate) fn joint_count(
     left: &[Step],
     right: &[Step],
 ) -> Result<u64, AllocError>
+    requires ascends { IsStrictlyIncreasing types.now }
     requires left { length left.now ≤ 65535 }
     requires right { length right.now ≤ 65535 }
     ensures { IfOk result (λ count. count ≡ pair_count types.now (step_nodes left.now) (step_nodes right.now)) }
@@ -264,6 +270,7 @@ pub(crate) fn hidden_steps(
     types: &[u32],
     set: u32,
 ) -> Result<Vec<Step>, AllocError>
+    requires ascends { IsStrictlyIncreasing types.now }
     ensures { IfOk result (λ list. step_nodes list.items ≡ map (hidden_node types.now set) (step_nodes steps.items)) }
 {
     let mut list = Vec::new(alloc);
@@ -275,6 +282,7 @@ pub(crate) fn hidden_steps(
 
 /// The step of a system that hides these types, from this one of what it hides.
 fn hidden_step(alloc: Global, step: Step, types: &[u32], set: u32) -> Result<Step, AllocError>
+    requires ascends { IsStrictlyIncreasing types.now }
     ensures { IfOk result (λ made. step_node made ≡ hidden_node types.now set (step_node step)) }
 {
     let action = if is_in(types, step.action) {
