@@ -172,5 +172,6 @@ module _ (m : PepaModel) where
           ∙ ap (map (hidden_move hidden)) of_inner.moves;
       targets =
           all_map (StaysIn m) (hidden_node hidden set) (step_nodes part.steps.items)
-          (all_same (StaysIn m) (λ u. StaysIn m (hidden_node hidden set u)) (λ u h. (h, known)) (step_nodes part.steps.items) (all_from_each (StaysIn m) (step_nodes part.steps.items) of_inner.targets));
+          (all_same (StaysIn m) (λ u. StaysIn m (hidden_node hidden set u)) (λ u h. (h, known)) (step_nodes part.steps.items)
+          (all_from_each (StaysIn m) (step_nodes part.steps.items) of_inner.targets));
     }

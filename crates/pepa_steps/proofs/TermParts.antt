@@ -68,7 +68,8 @@ module _ (m : PepaModel) where
         fine = all_fine whole.rates;
         rated = rated;
         short = omega (arith, count, whole.short, node_count part.steps.items);
-        in_range = all_unmap (λ t. InRange (fraction_of t.rate)) (node_transition m) (step_nodes part.steps.items) (subst (AllByRecursion (λ t. InRange (fraction_of t.rate))) (sym h.moves) whole.in_range);
+        in_range = all_unmap (λ t. InRange (fraction_of t.rate)) (node_transition m) (step_nodes part.steps.items)
+        (subst (AllByRecursion (λ t. InRange (fraction_of t.rate))) (sym h.moves) whole.in_range);
       }
     where
       all_fine : HasFineRates tree → AllFine part.rates.entries

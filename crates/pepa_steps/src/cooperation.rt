@@ -37,7 +37,8 @@ pub(crate) fn cooperation_part(
     requires right_short { length right_part.steps.items ≤ 65535 }
     requires left_range { AreNodesInRange (step_nodes left_part.steps.items) }
     requires right_range { AreNodesInRange (step_nodes right_part.steps.items) }
-    ensures { AnswersBy (rates_of_cooperation types.now left_part.rates.entries right_part.rates.entries) (cooperation_nodes types.now set (term_of left.now) (term_of right.now) left_part right_part) result }
+    ensures { AnswersBy (rates_of_cooperation types.now left_part.rates.entries right_part.rates.entries)
+        (cooperation_nodes types.now set (term_of left.now) (term_of right.now) left_part right_part) result }
 {
     let rates = cooperation_rates(alloc, types, &left_part.rates, &right_part.rates)?;
     let ours = left_part.steps.as_slice();
@@ -47,6 +48,7 @@ pub(crate) fn cooperation_part(
     if alone + joint > MOST_STEPS {
         return Err(StepsEnd::Fault(StepFault::ListTooLong));
     }
+    // These need both sides whole, so they come before what either side does alone, which takes its steps.
     let mut together = Vec::new(alloc);
     push_joint(alloc, &mut together, &left_part, &right_part, types, set)?;
     let mut steps = Vec::new(alloc);

@@ -153,7 +153,8 @@ fn push_joint_steps(
     requires left_rated { IsRatedIn left.now.rates.entries (step_node step.now) }
     requires right_rated { AreRatedFor step.now.action right.now.rates.entries (step_nodes right.now.steps.items) }
     requires places { indices.now ≡ places_from 0 step.now.action (step_nodes right.now.steps.items) }
-    ensures { AddsJoint (step_nodes list.old.items) (step_nodes list.new.items) (joined_to set left.now.rates.entries right.now.rates.entries (step_nodes right.now.steps.items) (step_node step.now)) result }
+    ensures { AddsJoint (step_nodes list.old.items) (step_nodes list.new.items)
+        (joined_to set left.now.rates.entries right.now.rates.entries (step_nodes right.now.steps.items) (step_node step.now)) result }
 {
     // A side without an apparent rate of the action has no step by it.
     let Some(left_rate) = left.rates.get(&step.action) else {

@@ -13,14 +13,18 @@ returns-in_err-rates c =
 
 pub overflow_add-alone : goal.overflow_add-alone
 overflow_add-alone c =
-    let l = few_alone c.args.types.now (step_nodes c.as_slice-ours.result.now) (omega (arith, c.requires.left_short, node_count c.as_slice-ours.result.now, ap length c.as_slice-ours.ensures.value)) in
-    let r = few_alone c.args.types.now (step_nodes c.as_slice-theirs.result.now) (omega (arith, c.requires.right_short, node_count c.as_slice-theirs.result.now, ap length c.as_slice-theirs.ensures.value)) in
+    let l = few_alone c.args.types.now (step_nodes c.as_slice-ours.result.now)
+    (omega (arith, c.requires.left_short, node_count c.as_slice-ours.result.now, ap length c.as_slice-ours.ensures.value)) in
+    let r = few_alone c.args.types.now (step_nodes c.as_slice-theirs.result.now)
+    (omega (arith, c.requires.right_short, node_count c.as_slice-theirs.result.now, ap length c.as_slice-theirs.ensures.value)) in
     omega (arith, l, r)
 
 pub overflow_add-alone-2 : goal.overflow_add-alone-2
 overflow_add-alone-2 c =
-    let l = few_alone c.args.types.now (step_nodes c.as_slice-ours.result.now) (omega (arith, c.requires.left_short, node_count c.as_slice-ours.result.now, ap length c.as_slice-ours.ensures.value)) in
-    let r = few_alone c.args.types.now (step_nodes c.as_slice-theirs.result.now) (omega (arith, c.requires.right_short, node_count c.as_slice-theirs.result.now, ap length c.as_slice-theirs.ensures.value)) in
+    let l = few_alone c.args.types.now (step_nodes c.as_slice-ours.result.now)
+    (omega (arith, c.requires.left_short, node_count c.as_slice-ours.result.now, ap length c.as_slice-ours.ensures.value)) in
+    let r = few_alone c.args.types.now (step_nodes c.as_slice-theirs.result.now)
+    (omega (arith, c.requires.right_short, node_count c.as_slice-theirs.result.now, ap length c.as_slice-theirs.ensures.value)) in
     let pairs = few_pairs c.args.types.now (step_nodes c.as_slice-ours.result.now) (step_nodes c.as_slice-theirs.result.now)
     (omega (arith, c.requires.left_short, node_count c.as_slice-ours.result.now, ap length c.as_slice-ours.ensures.value))
     (omega (arith, c.requires.right_short, node_count c.as_slice-theirs.result.now, ap length c.as_slice-theirs.ensures.value)) in
