@@ -85,10 +85,10 @@ module _ (m : PepaModel) where
     types = slice_index_or m.sets set []
 
     abbrev us : List StepNode
-    us = step_nodes l.steps
+    us = step_nodes l.steps.items
 
     abbrev vs : List StepNode
-    vs = step_nodes r.steps
+    vs = step_nodes r.steps.items
 
     cooperation_each : (action : ℕ) → 0 < action → rates_of_cooperation types l.rates.entries r.rates.entries action ≡ apparent_in (CoopOpen s t types) action
     cooperation_each action positive =
@@ -167,10 +167,11 @@ module _ (m : PepaModel) where
       each = λ action positive. ap (λ (x : Apparent). if has hidden action then NoRate else x) (of_inner.rates.each action positive);
       none = hiding_none (rate_in part.rates.entries 0) of_inner.rates.no_tau (has hidden 0);
       moves =
-          map_twice nt (hidden_node hidden set) (step_nodes part.steps)
-          ∙ sym (map_twice (hidden_move hidden) nt (step_nodes part.steps))
+          map_twice nt (hidden_node hidden set) (step_nodes part.steps.items)
+          ∙ sym (map_twice (hidden_move hidden) nt (step_nodes part.steps.items))
           ∙ ap (map (hidden_move hidden)) of_inner.moves;
       targets =
-          all_map (StaysIn m) (hidden_node hidden set) (step_nodes part.steps)
-          (all_same (StaysIn m) (λ u. StaysIn m (hidden_node hidden set u)) (λ u h. (h, known)) (step_nodes part.steps) (all_from_each (StaysIn m) (step_nodes part.steps) of_inner.targets));
+          all_map (StaysIn m) (hidden_node hidden set) (step_nodes part.steps.items)
+          (all_same (StaysIn m) (λ u. StaysIn m (hidden_node hidden set u)) (λ u h. (h, known)) (step_nodes part.steps.items)
+          (all_from_each (StaysIn m) (step_nodes part.steps.items) of_inner.targets));
     }

@@ -3,7 +3,7 @@ use Rattle.std.proofs.Common.{◌≡◌, ◌==◌, ℕ, ◌+◌, ◌*◌, ◌<�
 use Rattle.std.proofs.Common.{refl, ap, subst, ◌∙◌, arith, length-append}
 use Rattle.std.specs.List.{AllByRecursion}
 use Rattle.std.specs.BTreeMap.{BTreeMap}
-use Rattle.std.proofs.lemmas.List.{length-map}
+use Rattle.std.proofs.lemmas.List.{length-map, map-append}
 use Rattle.std.proofs.lemmas.List.Sums.{sum_by-cons, length-filter, count_by-le-length}
 use Rattle.std.proofs.lemmas.List.Concat.{length-flat_map}
 use Rattle.pepa_rates.specs.Fraction.{InRange}
@@ -15,7 +15,7 @@ use Rattle.pepa_model.specs.Terms.{TermNode}
 use Rattle.pepa_model.specs.declared.term.Step.{Step}
 use Rattle.pepa_steps.specs.States.{has}
 use Rattle.pepa_steps.specs.StateVerdict.{OfRates, OfLength, OfDerivation}
-use Rattle.pepa_steps.specs.StepNodes.{StepNode, step_nodes, alone, left_node, right_node, hidden_node, joined_to, joint_nodes}
+use Rattle.pepa_steps.specs.StepNodes.{StepNode, step_node, step_nodes, alone, left_node, right_node, hidden_node, joined_to, joint_nodes}
 use Rattle.pepa_steps.specs.StateRates.{AnswersRatesBy}
 use Rattle.pepa_steps.specs.JointSteps.{pair_count, AddsJoint}
 use Rattle.pepa_steps.specs.PartAnswers.{AreNodesInRange, AnswersBy, IsFoundBy, cooperation_nodes}
@@ -63,10 +63,10 @@ node_count steps = length-map steps _
 
 cooperation_length : (types : List ℕ) (set : ℕ) (left right : TermNode) (l r : Part)
     → length (cooperation_nodes types set left right l r)
-    ≡ (length (alone types (step_nodes l.steps)) + length (alone types (step_nodes r.steps))) + pair_count types (step_nodes l.steps) (step_nodes r.steps)
+    ≡ (length (alone types (step_nodes l.steps.items)) + length (alone types (step_nodes r.steps.items))) + pair_count types (step_nodes l.steps.items) (step_nodes r.steps.items)
 cooperation_length types set left right l r =
-    let us = step_nodes l.steps in
-    let vs = step_nodes r.steps in
+    let us = step_nodes l.steps.items in
+    let vs = step_nodes r.steps.items in
     let lefts = map (left_node right set) (alone types us) in
     let rights = map (right_node left set) (alone types vs) in
     omega (
@@ -125,19 +125,18 @@ module _ (of : ℕ → Apparent) where
       (OfDerivation, (fine_rates of found h, short, λ all. out (all_front HasRange front back all)), refl)
   joint_fault front back old new found joint.Memory h short out = tt
 
-  pub is_found : (us : List StepNode) (found : BTreeMap ℕ Rate) (steps : List Step) → AnswersRatesBy of (Ok found) → step_nodes steps ≡ us → length us ≤ 65535 → AreNodesInRange us
-      → IsFoundBy of us (record { steps = steps; rates = found })
-  is_found us found steps h are short in_range = record { fine = h.0; rates_are = h.1; steps_are = are; short = short; in_range = in_range }
+  pub is_found : (us : List StepNode) (part : Part) → AnswersRatesBy of (Ok part.rates) → step_nodes part.steps.items ≡ us → length us ≤ 65535 → AreNodesInRange us → IsFoundBy of us part
+  is_found us part h are short in_range = record { fine = h.0; rates_are = h.1; steps_are = are; short = short; in_range = in_range }
 
 -- the number of all steps, from the three counts
-pub total : (types : List ℕ) (set : ℕ) (left right : TermNode) (l r : Part) (a b j : ℕ) (xs ys zs ws : List Step) → xs ≡ l.steps → ys ≡ r.steps → zs ≡ l.steps → ws ≡ r.steps
+pub total : (types : List ℕ) (set : ℕ) (left right : TermNode) (l r : Part) (a b j : ℕ) (xs ys zs ws : List Step) → xs ≡ l.steps.items → ys ≡ r.steps.items → zs ≡ l.steps.items → ws ≡ r.steps.items
     → a ≡ length (alone types (step_nodes xs)) → b ≡ length (alone types (step_nodes ys)) → j ≡ pair_count types (step_nodes zs) (step_nodes ws)
     → length (cooperation_nodes types set left right l r) ≡ (a + b) + j
 total types set left right l r a b j xs ys zs ws e f g h count_left count_right count_both =
-    let both : pair_count types (step_nodes zs) (step_nodes ws) ≡ pair_count types (step_nodes l.steps) (step_nodes r.steps) =
-    ap (λ (s : List Step). pair_count types (step_nodes s) (step_nodes ws)) g ∙ ap (λ (s : List Step). pair_count types (step_nodes l.steps) (step_nodes s)) h in
-    let of_left : length (alone types (step_nodes xs)) ≡ length (alone types (step_nodes l.steps)) = ap (λ (s : List Step). length (alone types (step_nodes s))) e in
-    let of_right : length (alone types (step_nodes ys)) ≡ length (alone types (step_nodes r.steps)) = ap (λ (s : List Step). length (alone types (step_nodes s))) f in
+    let both : pair_count types (step_nodes zs) (step_nodes ws) ≡ pair_count types (step_nodes l.steps.items) (step_nodes r.steps.items) =
+    ap (λ (s : List Step). pair_count types (step_nodes s) (step_nodes ws)) g ∙ ap (λ (s : List Step). pair_count types (step_nodes l.steps.items) (step_nodes s)) h in
+    let of_left : length (alone types (step_nodes xs)) ≡ length (alone types (step_nodes l.steps.items)) = ap (λ (s : List Step). length (alone types (step_nodes s))) e in
+    let of_right : length (alone types (step_nodes ys)) ≡ length (alone types (step_nodes r.steps.items)) = ap (λ (s : List Step). length (alone types (step_nodes s))) f in
     omega (arith, cooperation_length types set left right l r)
 
 joined_lists : {X : Type 0} (first second third front lefts rights joints : List X) → front ≡ [] → first ≡ front ++ lefts → second ≡ first ++ rights → third ≡ second ++ joints
@@ -146,33 +145,30 @@ joined_lists first second third front lefts rights joints e f g h =
     h ∙ ap (λ l. l ++ joints) (g ∙ ap (λ l. l ++ rights) (f ∙ ap (λ l. l ++ lefts) e))
 
 -- the whole list, from what each call added
-pub all_nodes : (types : List ℕ) (set : ℕ) (left right : TermNode) (l r : Part) (xs ys front first second third : List Step) → xs ≡ l.steps → ys ≡ r.steps → front ≡ []
-    → step_nodes first ≡ step_nodes front ++ map (left_node right set) (alone types (step_nodes xs))
-    → step_nodes second ≡ step_nodes first ++ map (right_node left set) (alone types (step_nodes ys))
-    → step_nodes third ≡ step_nodes second ++ joint_nodes types set l.rates.entries r.rates.entries (step_nodes l.steps) (step_nodes r.steps)
+pub all_nodes : (types : List ℕ) (set : ℕ) (left right : TermNode) (l r : Part) (front first second start joints third : List Step) → front ≡ [] → start ≡ []
+    → step_nodes first ≡ step_nodes front ++ map (left_node right set) (alone types (step_nodes l.steps.items))
+    → step_nodes second ≡ step_nodes first ++ map (right_node left set) (alone types (step_nodes r.steps.items))
+    → step_nodes joints ≡ step_nodes start ++ joint_nodes types set l.rates.entries r.rates.entries (step_nodes l.steps.items) (step_nodes r.steps.items)
+    → third ≡ second ++ joints
     → step_nodes third ≡ cooperation_nodes types set left right l r
-all_nodes types set left right l r xs ys front first second third same_left same_right e f g h =
-    joined_lists (step_nodes first) (step_nodes second) (step_nodes third) (step_nodes front) (map (left_node right set) (alone types (step_nodes l.steps)))
-    (map (right_node left set) (alone types (step_nodes r.steps)))
-    (joint_nodes types set l.rates.entries r.rates.entries (step_nodes l.steps) (step_nodes r.steps))
-    (ap step_nodes e)
-    (f ∙ ap (λ (s : List Step). step_nodes front ++ map (left_node right set) (alone types (step_nodes s))) same_left)
-    (g ∙ ap (λ (s : List Step). step_nodes first ++ map (right_node left set) (alone types (step_nodes s))) same_right)
-    h
+all_nodes types set left right l r front first second start joints third none none_joint f g h e =
+    let both = joint_nodes types set l.rates.entries r.rates.entries (step_nodes l.steps.items) (step_nodes r.steps.items) in
+    joined_lists (step_nodes first) (step_nodes second) (step_nodes third) (step_nodes front) (map (left_node right set) (alone types (step_nodes l.steps.items)))
+    (map (right_node left set) (alone types (step_nodes r.steps.items))) both
+    (ap step_nodes none)
+    f
+    g
+    (ap step_nodes e ∙ map-append step_node second joints ∙ ap (λ (us : List StepNode). step_nodes second ++ us) (h ∙ ap (λ (s : List Step). step_nodes s ++ both) none_joint))
 
 -- their rates are in range, where those of the joint ones are
-pub cooperation_range : (types : List ℕ) (set : ℕ) (left right : TermNode) (l r : Part) → AreNodesInRange (step_nodes l.steps) → AreNodesInRange (step_nodes r.steps)
-    → AreNodesInRange (joint_nodes types set l.rates.entries r.rates.entries (step_nodes l.steps) (step_nodes r.steps)) → AreNodesInRange (cooperation_nodes types set left right l r)
+pub cooperation_range : (types : List ℕ) (set : ℕ) (left right : TermNode) (l r : Part) → AreNodesInRange (step_nodes l.steps.items) → AreNodesInRange (step_nodes r.steps.items)
+    → AreNodesInRange (joint_nodes types set l.rates.entries r.rates.entries (step_nodes l.steps.items) (step_nodes r.steps.items)) → AreNodesInRange (cooperation_nodes types set left right l r)
 cooperation_range types set left right l r of_left of_right of_both =
     all_append HasRange _ _
-    (all_append HasRange _ _ (left_range types set right (step_nodes l.steps) of_left) (right_range types set left (step_nodes r.steps) of_right))
+    (all_append HasRange _ _ (left_range types set right (step_nodes l.steps.items) of_left) (right_range types set left (step_nodes r.steps.items) of_right))
     of_both
 
 -- ---- hidings
-
-pub hidden_nodes : (types : List ℕ) (set : ℕ) (xs steps list : List Step) → xs ≡ steps → step_nodes list ≡ map (hidden_node types set) (step_nodes xs)
-    → step_nodes list ≡ map (hidden_node types set) (step_nodes steps)
-hidden_nodes types set xs steps list same h = h ∙ ap (λ (s : List Step). map (hidden_node types set) (step_nodes s)) same
 
 pub hidden_length : (types : List ℕ) (set : ℕ) (steps : List Step) → length steps ≤ 65535 → length (map (hidden_node types set) (step_nodes steps)) ≤ 65535
 hidden_length types set steps short = omega (arith, length-map (step_nodes steps) (hidden_node types set), node_count steps)

@@ -26,6 +26,7 @@ use Rattle.pepa_steps.specs.StepNodes.{step_nodes, step_node, node_transition}
 use Rattle.pepa_steps.specs.PartAnswers.{IsPartOf, AnswersPart, AreNodesInRange}
 use Rattle.pepa_steps.specs.LeafSteps.{step_of}
 use Rattle.pepa_steps.specs.EndNames.{rates_end}
+use Rattle.pepa_steps.specs.declared.parts.Part.{Part}
 use Rattle.pepa_steps.specs.declared.action_rates.RatesEnd.{RatesEnd}
 use Rattle.pepa_steps.specs.declared.action_rates.RatesEnd.TheVariants.{Fault, Memory}
 use Rattle.pepa_steps.proofs.Faults.{all_append, all_front}
@@ -128,12 +129,12 @@ module _ (m : PepaModel) where
           stay = subst (λ (l : List Step). AllByRecursion (StaysIn m) (step_nodes l)) (sym are) (activity_targets activities (moves o) stand);
         }
 
-    of_opened : (steps : List Step) (o : Opened) → IsLeafWith o steps → (rates : BTreeMap ℕ Rate) → AnswersRates o (Ok rates) → IsPartOf m (LeafOpen o) (record { steps = steps; rates = rates })
-    of_opened steps o leaf rates h = record {
+    of_opened : (part : Part) (o : Opened) → IsLeafWith o part.steps.items → AnswersRates o (Ok part.rates) → IsPartOf m (LeafOpen o) part
+    of_opened part o leaf h = record {
       fine = fine_parts (parts o) h.0 (small_parts o leaf.small);
       rates = record { each = h.1.each; no_tau = h.1.no_tau };
       moves = leaf.same;
-      targets = each_from_all (StaysIn m) (step_nodes steps) leaf.stay;
+      targets = each_from_all (StaysIn m) (step_nodes part.steps.items) leaf.stay;
     }
 
     fault_of : (steps : List Step) (o : Opened) → IsLeafWith o steps → (fault : RateFault) → AnswersRates o (Err (Fault fault))
@@ -153,11 +154,11 @@ module _ (m : PepaModel) where
     abbrev pub LeafAnswered : Result (BTreeMap ℕ Rate) RatesEnd → Type 0
     LeafAnswered result = (o : Opened) → Opens m.bodies e o → AnswersRates o result
 
-    pub leaf_found : (steps : List Step) → steps ≡ map step_of activities → AreNodesInRange (step_nodes steps) → (rates : BTreeMap ℕ Rate) → LeafAnswered (Ok rates)
-        → (tree : OpenState) → OpensState m.bodies (AtLeaf e) tree → IsPartOf m tree (record { steps = steps; rates = rates })
-    leaf_found steps are range rates answers (LeafOpen o) opens = of_opened steps o (leaf_with steps are range o opens) rates (answers o opens)
-    leaf_found steps are range rates answers (CoopOpen s t set) opens = absurd opens
-    leaf_found steps are range rates answers (HideOpen s set) opens = absurd opens
+    pub leaf_found : (part : Part) → part.steps.items ≡ map step_of activities → AreNodesInRange (step_nodes part.steps.items) → LeafAnswered (Ok part.rates)
+        → (tree : OpenState) → OpensState m.bodies (AtLeaf e) tree → IsPartOf m tree part
+    leaf_found part are range answers (LeafOpen o) opens = of_opened part o (leaf_with part.steps.items are range o opens) (answers o opens)
+    leaf_found part are range answers (CoopOpen s t set) opens = absurd opens
+    leaf_found part are range answers (HideOpen s set) opens = absurd opens
 
     pub leaf_fault : (steps : List Step) → steps ≡ map step_of activities → AreNodesInRange (step_nodes steps) → (end : RatesEnd) → LeafAnswered (Err end)
         → (tree : OpenState) → OpensState m.bodies (AtLeaf e) tree → AnswersPart m tree (Err (rates_end end))

@@ -27,3 +27,4 @@ pub mod LeafParts
 pub mod StateParts
 pub mod TermParts
 pub mod TermSteps
+pub mod TypeSets

@@ -84,7 +84,7 @@ module _ (m : PepaModel) where
           fine = subst (AllByRecursion IsFinePart) (sym whole) (all_append IsFinePart front (part ∷ []) fine (is_fine, tt));
           rates = record { each = λ action positive. h.rates_are action ∙ agrees.each action positive; no_tau = h.rates_are 0 ∙ agrees.none };
           moves = ap (map (node_transition m)) h.steps_are ∙ agrees.moves;
-          targets = each_from_all StaysIn (step_nodes found.steps) (subst (AllByRecursion StaysIn) (sym h.steps_are) agrees.targets);
+          targets = each_from_all StaysIn (step_nodes found.steps.items) (subst (AllByRecursion StaysIn) (sym h.steps_are) agrees.targets);
         }
     answered front whole fine (Err (Fault name)) h =
         (h.0, subst (λ all. IsFirstFault IsFinePart HasPartFault all h.0) (sym whole) (first_at_last IsFinePart HasPartFault h.0 front part fine (part_fault h.0 h.1)), h.2)

@@ -44,17 +44,6 @@ module _ (types : List ℕ) (us us' : List StepNode) (u : StepNode) (grows : us'
   alone_same : has types u.action ≡ true → alone types us' ≡ alone types us
   alone_same h = ap (alone types) grows ∙ filter_skips (λ (v : StepNode). not (has types v.action)) us u (ap not h)
 
-  pub adds_alone : (f : StepNode → StepNode) (old before new : List StepNode) → has types u.action ≡ false
-      → before ≡ old ++ map f (alone types us) → new ≡ before ++ f u ∷ [] → new ≡ old ++ map f (alone types us')
-  adds_alone f old before new h so_far push =
-      push
-      ∙ ap (λ (xs : List StepNode). xs ++ f u ∷ []) so_far
-      ∙ append_assoc old (map f (alone types us)) (f u ∷ [])
-      ∙ ap (λ (xs : List StepNode). old ++ xs) (sym (map_push f (alone types us) u) ∙ ap (map f) (sym (alone_more h)))
-
-  pub skips_alone : (f : StepNode → StepNode) (old before : List StepNode) → has types u.action ≡ true → before ≡ old ++ map f (alone types us) → before ≡ old ++ map f (alone types us')
-  skips_alone f old before h so_far = so_far ∙ ap (λ (xs : List StepNode). old ++ map f xs) (sym (alone_same h))
-
   pub counts_alone : (count : ℕ) → has types u.action ≡ false → count ≡ length (alone types us) → count + 1 ≡ length (alone types us')
   counts_alone count h so_far = ap (λ (n : ℕ). n + 1) so_far ∙ sym (length_push (alone types us) u) ∙ ap length (sym (alone_more h))
 
@@ -66,9 +55,6 @@ module _ (types : List ℕ) (us us' : List StepNode) (u : StepNode) (grows : us'
 
   pub shared_same : has types u.action ≡ false → shared types us' ≡ shared types us
   shared_same h = ap (shared types) grows ∙ filter_skips (λ (v : StepNode). has types v.action) us u h
-
-  pub adds_mapped : (f : StepNode → StepNode) (before new : List StepNode) → before ≡ map f us → new ≡ before ++ f u ∷ [] → new ≡ map f us'
-  adds_mapped f before new so_far push = push ∙ ap (λ (xs : List StepNode). xs ++ f u ∷ []) so_far ∙ sym (map_push f us u) ∙ ap (map f) (sym grows)
 
 -- ---- the places of steps by one action
 

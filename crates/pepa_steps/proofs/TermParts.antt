@@ -55,31 +55,32 @@ set_positive m sound set known = (sound.sets set (slice_index_or m.sets set []) 
 -- what a cooperation over these types asks of its sides
 pub record IsReady (types : List ℕ) (part : Part) : Type 0 where
   pub fine : AllFine part.rates.entries
-  pub rated : AreRated types part.rates.entries (step_nodes part.steps)
-  pub short : length part.steps ≤ 65535
-  pub in_range : AreNodesInRange (step_nodes part.steps)
+  pub rated : AreRated types part.rates.entries (step_nodes part.steps.items)
+  pub short : length part.steps.items ≤ 65535
+  pub in_range : AreNodesInRange (step_nodes part.steps.items)
 
 module _ (m : PepaModel) where
   ready : (types : List ℕ) → AllByRecursion (λ a. 0 < a) types → (tree : OpenState) (part : Part) → IsPartOf m tree part → IsReady types part
   ready types positive tree part h =
       let whole = whole_in IsFinePart tree h.fine in
-      let count : length (step_nodes part.steps) ≡ length (moves_in tree) = sym (length-map (step_nodes part.steps) (node_transition m)) ∙ ap length h.moves in
+      let count : length (step_nodes part.steps.items) ≡ length (moves_in tree) = sym (length-map (step_nodes part.steps.items) (node_transition m)) ∙ ap length h.moves in
       record {
         fine = all_fine whole.rates;
         rated = rated;
-        short = omega (arith, count, whole.short, node_count part.steps);
-        in_range = all_unmap (λ t. InRange (fraction_of t.rate)) (node_transition m) (step_nodes part.steps) (subst (AllByRecursion (λ t. InRange (fraction_of t.rate))) (sym h.moves) whole.in_range);
+        short = omega (arith, count, whole.short, node_count part.steps.items);
+        in_range = all_unmap (λ t. InRange (fraction_of t.rate)) (node_transition m) (step_nodes part.steps.items)
+        (subst (AllByRecursion (λ t. InRange (fraction_of t.rate))) (sym h.moves) whole.in_range);
       }
     where
       all_fine : HasFineRates tree → AllFine part.rates.entries
       all_fine fine zero = subst IsFine (sym h.rates.no_tau) tt
       all_fine fine (suc n) = subst IsFine (sym (h.rates.each (suc n) (omega arith))) (fine (suc n) (omega arith))
 
-      rated : AreRated types part.rates.entries (step_nodes part.steps)
+      rated : AreRated types part.rates.entries (step_nodes part.steps.items)
       rated u there has_it =
           let above : 0 < u.action = has_positive types positive u.action has_it in
           let among : Among (node_transition m u) (moves_in tree) =
-          subst (λ (l : List StateTransition). Among (node_transition m u) l) h.moves (among_map (node_transition m) (step_nodes part.steps) u there) in
+          subst (λ (l : List StateTransition). Among (node_transition m u) l) h.moves (among_map (node_transition m) (step_nodes part.steps.items) u there) in
           let known = move_rated tree (all_same IsFinePart HasFineRates (λ part fine. fine.rates) (parts_in tree) h.fine) (node_transition m u) among above in
           (known.rate, h.rates.each u.action above ∙ known.rated, known.kind)
 

@@ -41,14 +41,14 @@ module _ (m : PepaModel) where
     no_tau_in node known tree opens = absurd opens
 
     are_steps : (node : TermNode) → IsNodeOf m node → (tree : OpenState) → OpensState m.bodies (node_state m node) tree → (part : Part) → IsPartOf m tree part
-        → AreSteps m (node_state m node) part.steps
+        → AreSteps m (node_state m node) part.steps.items
     are_steps node known tree opens part h = (
       moves_in tree,
       transition_list m.bodies (node_state m node) tree opens (no_tau_in node known tree opens) (all_same IsFinePart HasFineRates (λ part fine. fine.rates) (parts_in tree) h.fine),
-      subst (λ (ts : List StateTransition). AllZip (StepStandsFor m) part.steps ts) h.moves (stand_for part.steps (all_from_each (StaysIn m) (step_nodes part.steps) h.targets)),
+      subst (λ (ts : List StateTransition). AllZip (StepStandsFor m) part.steps.items ts) h.moves (stand_for part.steps.items (all_from_each (StaysIn m) (step_nodes part.steps.items) h.targets)),
     )
 
-    pub steps_found : (node : TermNode) → IsNodeOf m node → (part : Part) → Answers m node (Ok part) → IsStepsAnswer m (node_state m node) (Ok part.steps)
+    pub steps_found : (node : TermNode) → IsNodeOf m node → (part : Part) → Answers m node (Ok part) → IsStepsAnswer m (node_state m node) (Ok part.steps.items)
     steps_found node known part answers =
         let (tree, opens) = state_opens m sound node known in
         let h = answers tree opens in

@@ -23,8 +23,8 @@ use Rattle.pepa_steps.specs.declared.transitions.StepsEnd.TheVariants.{Fault, Me
 pub record IsPartOf (m : PepaModel) (tree : OpenState) (part : Part) : Type 0 where
   pub fine : AllByRecursion IsFinePart (parts_in tree)
   pub rates : AreStateRates part.rates.entries tree
-  pub moves : map (node_transition m) (step_nodes part.steps) ≡ moves_in tree
-  pub targets : (u : StepNode) → Contains (step_nodes part.steps) u → IsNodeOf m u.target
+  pub moves : map (node_transition m) (step_nodes part.steps.items) ≡ moves_in tree
+  pub targets : (u : StepNode) → Contains (step_nodes part.steps.items) u → IsNodeOf m u.target
 
 -- what may be answered of a state: what it does, its first fault's name, or that memory ran out
 abbrev pub AnswersPart : PepaModel → OpenState → Result Part StepsEnd → Type 0
@@ -48,7 +48,7 @@ HasFaultOf rates us OfDerivation = ((action : ℕ) → IsFine (rates action)) ×
 pub record IsFoundBy (rates : ℕ → Apparent) (us : List StepNode) (part : Part) : Type 0 where
   pub fine : AllFine part.rates.entries
   pub rates_are : (action : ℕ) → rate_in part.rates.entries action ≡ rates action
-  pub steps_are : step_nodes part.steps ≡ us
+  pub steps_are : step_nodes part.steps.items ≡ us
   pub short : length us ≤ 65535
   pub in_range : AreNodesInRange us
 
@@ -60,8 +60,8 @@ AnswersBy rates us (Err Memory) = Unit {0}
 -- the steps of a cooperation: first those of the left side alone, then of the right side alone, then of both
 abbrev pub cooperation_nodes : List ℕ → ℕ → TermNode → TermNode → Part → Part → List StepNode
 cooperation_nodes types set left right l r =
-    (map (left_node right set) (alone types (step_nodes l.steps)) ++ map (right_node left set) (alone types (step_nodes r.steps)))
-    ++ joint_nodes types set l.rates.entries r.rates.entries (step_nodes l.steps) (step_nodes r.steps)
+    (map (left_node right set) (alone types (step_nodes l.steps.items)) ++ map (right_node left set) (alone types (step_nodes r.steps.items)))
+    ++ joint_nodes types set l.rates.entries r.rates.entries (step_nodes l.steps.items) (step_nodes r.steps.items)
 
 abbrev pub hiding_nodes : List ℕ → ℕ → Part → List StepNode
-hiding_nodes types set inner = map (hidden_node types set) (step_nodes inner.steps)
+hiding_nodes types set inner = map (hidden_node types set) (step_nodes inner.steps.items)

@@ -1,5 +1,6 @@
 //! The apparent rate of one action type.
 ghost use Rattle.std.specs.Prelude.{◌≡◌, ◌<◌, Result, Option};
+ghost use Rattle.std.specs.List.Sorted.{IsStrictlyIncreasing};
 ghost use Rattle.pepa_model.specs.Expression.{expression_of};
 ghost use Rattle.pepa_model.specs.Opened.{Opened, Opens};
 ghost use Rattle.pepa_model.specs.Terms.{IsTermOf};
@@ -53,6 +54,7 @@ fn rate_of_cooperation(
     left: Option<Rate>,
     right: Option<Rate>,
 ) -> Result<Option<Rate>, RateFault>
+    requires ascends { IsStrictlyIncreasing types.now }
     ensures { IsOfCooperation (has types.now action) left right result }
 {
     if !is_in(types, action) {

@@ -1,4 +1,5 @@
 //! The apparent rates of cooperations and hidings by action type, from those of their parts.
+ghost use Rattle.std.specs.List.Sorted.{IsStrictlyIncreasing};
 ghost use Rattle.pepa_steps.specs.ActionRates.{AllFine, AnswersChoice};
 ghost use Rattle.pepa_steps.specs.StateRates.{AnswersRatesBy, rates_of_cooperation, rates_of_hiding};
 ghost use Rattle.pepa_steps.specs.CooperationRates.{AnswersSetting, MakesRates, rates_of_left, outside};
@@ -17,6 +18,7 @@ pub(crate) fn cooperation_rates(
     left: &BTreeMap<u32, Rate>,
     right: &BTreeMap<u32, Rate>,
 ) -> Result<BTreeMap<u32, Rate>, RatesEnd>
+    requires ascends { IsStrictlyIncreasing types.now }
     requires left_fine { AllFine left.now.entries }
     requires right_fine { AllFine right.now.entries }
     ensures { AnswersRatesBy (rates_of_cooperation types.now left.now.entries right.now.entries) result }
@@ -32,6 +34,7 @@ fn left_rates(
     left: &BTreeMap<u32, Rate>,
     right: &BTreeMap<u32, Rate>,
 ) -> Result<BTreeMap<u32, Rate>, RatesEnd>
+    requires ascends { IsStrictlyIncreasing types.now }
     requires left_fine { AllFine left.now.entries }
     requires right_fine { AllFine right.now.entries }
     ensures { MakesRates (rates_of_left types.now left.now.entries right.now.entries) result }
@@ -53,7 +56,8 @@ fn add_outside(
     first: BTreeMap<u32, Rate>,
     others: &BTreeMap<u32, Rate>,
 ) -> Result<BTreeMap<u32, Rate>, RatesEnd>
-    requires { AllFine first.entries }
+    requires ascends { IsStrictlyIncreasing types.now }
+    requires fine { AllFine first.entries }
     ensures { AnswersChoice first.entries (outside types.now others.now.entries) result }
 {
     let mut all = first;
@@ -71,7 +75,8 @@ pub(crate) fn hiding_rates(
     types: &[u32],
     inner: &BTreeMap<u32, Rate>,
 ) -> Result<BTreeMap<u32, Rate>, RatesEnd>
-    requires { AllFine inner.now.entries }
+    requires ascends { IsStrictlyIncreasing types.now }
+    requires fine { AllFine inner.now.entries }
     ensures { AnswersRatesBy (rates_of_hiding types.now inner.now.entries) result }
 {
     let mut seen = BTreeMap::new(alloc);

@@ -1,5 +1,6 @@
 //! The steps of cooperations and hidings, from those of their parts.
-ghost use Rattle.std.specs.Prelude.{◌≡◌, ◌<◌, ◌≤◌, ◌++◌, ◌^◌, map, length, OnOk, IfOk};
+ghost use Rattle.std.specs.Prelude.{◌≡◌, ◌<◌, ◌≤◌, [], ◌∷◌, ◌++◌, ◌^◌, map, length, OnOk, IfOk};
+ghost use Rattle.std.specs.List.Sorted.{IsStrictlyIncreasing};
 ghost use Rattle.pepa_rates.specs.Share.{SameKind};
 ghost use Rattle.pepa_model.specs.Terms.{CoopNode, term_of};
 ghost use Rattle.pepa_steps.specs.StepNodes.{step_nodes, alone, left_node, right_node, step_node, hidden_node, joint_node, joined_to, joint_nodes, AreRated};
@@ -8,7 +9,7 @@ ghost use Rattle.pepa_steps.specs.Partners.{AddsPartner, IsRatedIn, AreRatedFor}
 
 use crate::parts::Part;
 use crate::sets::is_in;
-use pepa_model::{Step, StepList, Term, Words32};
+use pepa_model::{Step, Term, Words32};
 use pepa_rates::Rate;
 use std::alloc::{AllocError, Global};
 use std::collections::BTreeMap;
@@ -37,51 +38,69 @@ impl From<AllocError> for JointEnd {
 /// Appends the steps that the left side of a cooperation takes alone; the right side stays.
 pub(crate) fn push_left(
     alloc: Global,
-    list: &mut StepList,
-    steps: &[Step],
+    list: &mut Vec<Step>,
+    steps: Vec<Step>,
     right: &Term,
     types: &[u32],
     set: u32,
 ) -> Result<(), AllocError>
-    ensures { OnOk result (step_nodes list.new ≡ step_nodes list.old ++ map (left_node (term_of right.now) set) (alone types.now (step_nodes steps.now))) }
+    requires ascends { IsStrictlyIncreasing types.now }
+    ensures { OnOk result (step_nodes list.new.items ≡ step_nodes list.old.items ++ map (left_node (term_of right.now) set) (alone types.now (step_nodes steps.items))) }
 {
     for step in steps {
         if !is_in(types, step.action) {
-            let target = joined(alloc, &step.target, right, set)?;
-            list.push(Step {
-                action: step.action,
-                signals: step.signals,
-                rate: step.rate,
-                target,
-            })?;
+            list.push(left_step(alloc, step, right, set)?)?;
         }
     }
     Ok(())
 }
 
+/// The step of a cooperation that is this one of its left side, which moves into it.
+fn left_step(alloc: Global, step: Step, right: &Term, set: u32) -> Result<Step, AllocError>
+    ensures { IfOk result (λ made. step_node made ≡ left_node (term_of right.now) set (step_node step)) }
+{
+    let right = Box::new(alloc, right.copy(alloc)?)?;
+    let left = Box::new(alloc, step.target)?;
+    Ok(Step {
+        action: step.action,
+        signals: step.signals,
+        rate: step.rate,
+        target: Term::Coop(left, right, set),
+    })
+}
+
 /// Appends the steps that the right side of a cooperation takes alone; the left side stays.
 pub(crate) fn push_right(
     alloc: Global,
-    list: &mut StepList,
-    steps: &[Step],
+    list: &mut Vec<Step>,
+    steps: Vec<Step>,
     left: &Term,
     types: &[u32],
     set: u32,
 ) -> Result<(), AllocError>
-    ensures { OnOk result (step_nodes list.new ≡ step_nodes list.old ++ map (right_node (term_of left.now) set) (alone types.now (step_nodes steps.now))) }
+    requires ascends { IsStrictlyIncreasing types.now }
+    ensures { OnOk result (step_nodes list.new.items ≡ step_nodes list.old.items ++ map (right_node (term_of left.now) set) (alone types.now (step_nodes steps.items))) }
 {
     for step in steps {
         if !is_in(types, step.action) {
-            let target = joined(alloc, left, &step.target, set)?;
-            list.push(Step {
-                action: step.action,
-                signals: step.signals,
-                rate: step.rate,
-                target,
-            })?;
+            list.push(right_step(alloc, step, left, set)?)?;
         }
     }
     Ok(())
+}
+
+/// The step of a cooperation that is this one of its right side, which moves into it.
+fn right_step(alloc: Global, step: Step, left: &Term, set: u32) -> Result<Step, AllocError>
+    ensures { IfOk result (λ made. step_node made ≡ right_node (term_of left.now) set (step_node step)) }
+{
+    let left = Box::new(alloc, left.copy(alloc)?)?;
+    let right = Box::new(alloc, step.target)?;
+    Ok(Step {
+        action: step.action,
+        signals: step.signals,
+        rate: step.rate,
+        target: Term::Coop(left, right, set),
+    })
 }
 
 /// The indices of the steps of each type in the set.
@@ -90,7 +109,8 @@ fn partners_by_action(
     types: &[u32],
     steps: &[Step],
 ) -> Result<BTreeMap<u32, Words32>, AllocError>
-    requires { length steps.now ≤ 65535 }
+    requires ascends { IsStrictlyIncreasing types.now }
+    requires short { length steps.now ≤ 65535 }
     ensures { IfOk result (λ partners. HasPartners types.now (step_nodes steps.now) partners.entries) }
 {
     let mut partners: BTreeMap<u32, Words32> = BTreeMap::new(alloc);
@@ -123,7 +143,7 @@ fn add_partner(
 /// Appends the joint steps of one step of the left side with the right side's steps at these indices.
 fn push_joint_steps(
     alloc: Global,
-    list: &mut StepList,
+    list: &mut Vec<Step>,
     step: &Step,
     indices: &Words32,
     left: &Part,
@@ -131,9 +151,10 @@ fn push_joint_steps(
     set: u32,
 ) -> Result<(), JointEnd>
     requires left_rated { IsRatedIn left.now.rates.entries (step_node step.now) }
-    requires right_rated { AreRatedFor step.now.action right.now.rates.entries (step_nodes right.now.steps) }
-    requires places { indices.now ≡ places_from 0 step.now.action (step_nodes right.now.steps) }
-    ensures { AddsJoint (step_nodes list.old) (step_nodes list.new) (joined_to set left.now.rates.entries right.now.rates.entries (step_nodes right.now.steps) (step_node step.now)) result }
+    requires right_rated { AreRatedFor step.now.action right.now.rates.entries (step_nodes right.now.steps.items) }
+    requires places { indices.now ≡ places_from 0 step.now.action (step_nodes right.now.steps.items) }
+    ensures { AddsJoint (step_nodes list.old.items) (step_nodes list.new.items)
+        (joined_to set left.now.rates.entries right.now.rates.entries (step_nodes right.now.steps.items) (step_node step.now)) result }
 {
     // A side without an apparent rate of the action has no step by it.
     let Some(left_rate) = left.rates.get(&step.action) else {
@@ -144,8 +165,16 @@ fn push_joint_steps(
     };
     for index in indices.as_slice() {
         let other = &right.steps.as_slice()[*index as usize];
-        list.push(joint_step(alloc, step, left_rate, other, right_rate, set)?)?;
+        add_step(list, joint_step(alloc, step, left_rate, other, right_rate, set)?)?;
     }
+    Ok(())
+}
+
+/// Appends a step.
+fn add_step(list: &mut Vec<Step>, step: Step) -> Result<(), AllocError>
+    ensures { OnOk result (list.new.items ≡ list.old.items ++ step ∷ []) }
+{
+    list.push(step)?;
     Ok(())
 }
 
@@ -187,17 +216,18 @@ fn joined(alloc: Global, left: &Term, right: &Term, set: u32) -> Result<Term, Al
 /// side's.
 pub(crate) fn push_joint(
     alloc: Global,
-    list: &mut StepList,
+    list: &mut Vec<Step>,
     left: &Part,
     right: &Part,
     types: &[u32],
     set: u32,
 ) -> Result<(), JointEnd>
-    requires left { AreRated types.now left.now.rates.entries (step_nodes left.now.steps) }
-    requires right { AreRated types.now right.now.rates.entries (step_nodes right.now.steps) }
-    requires right_short { length right.now.steps ≤ 65535 }
-    ensures { AddsJoint (step_nodes list.old) (step_nodes list.new)
-        (joint_nodes types.now set left.now.rates.entries right.now.rates.entries (step_nodes left.now.steps) (step_nodes right.now.steps)) result }
+    requires ascends { IsStrictlyIncreasing types.now }
+    requires left { AreRated types.now left.now.rates.entries (step_nodes left.now.steps.items) }
+    requires right { AreRated types.now right.now.rates.entries (step_nodes right.now.steps.items) }
+    requires right_short { length right.now.steps.items ≤ 65535 }
+    ensures { AddsJoint (step_nodes list.old.items) (step_nodes list.new.items)
+        (joint_nodes types.now set left.now.rates.entries right.now.rates.entries (step_nodes left.now.steps.items) (step_nodes right.now.steps.items)) result }
 {
     let partners = partners_by_action(alloc, types, right.steps.as_slice())?;
     for step in left.steps.as_slice() {
@@ -217,6 +247,7 @@ pub(crate) fn joint_count(
     left: &[Step],
     right: &[Step],
 ) -> Result<u64, AllocError>
+    requires ascends { IsStrictlyIncreasing types.now }
     requires left { length left.now ≤ 65535 }
     requires right { length right.now ≤ 65535 }
     ensures { IfOk result (λ count. count ≡ pair_count types.now (step_nodes left.now) (step_nodes right.now)) }
@@ -233,29 +264,38 @@ pub(crate) fn joint_count(
     Ok(count)
 }
 
-/// The steps of a system that hides these types, from those of what it hides.
+/// The steps of a system that hides these types, from those of what it hides, which move into them.
 pub(crate) fn hidden_steps(
     alloc: Global,
-    steps: &[Step],
+    steps: Vec<Step>,
     types: &[u32],
     set: u32,
-) -> Result<StepList, AllocError>
-    ensures { IfOk result (λ list. step_nodes list ≡ map (hidden_node types.now set) (step_nodes steps.now)) }
+) -> Result<Vec<Step>, AllocError>
+    requires ascends { IsStrictlyIncreasing types.now }
+    ensures { IfOk result (λ list. step_nodes list.items ≡ map (hidden_node types.now set) (step_nodes steps.items)) }
 {
-    let mut list = StepList::new(alloc);
+    let mut list = Vec::new(alloc);
     for step in steps {
-        let action = if is_in(types, step.action) {
-            TAU
-        } else {
-            step.action
-        };
-        let inner = Box::new(alloc, step.target.copy(alloc)?)?;
-        list.push(Step {
-            action,
-            signals: step.signals,
-            rate: step.rate,
-            target: Term::Hide(inner, set),
-        })?;
+        list.push(hidden_step(alloc, step, types, set)?)?;
     }
     Ok(list)
+}
+
+/// The step of a system that hides these types, from this one of what it hides.
+fn hidden_step(alloc: Global, step: Step, types: &[u32], set: u32) -> Result<Step, AllocError>
+    requires ascends { IsStrictlyIncreasing types.now }
+    ensures { IfOk result (λ made. step_node made ≡ hidden_node types.now set (step_node step)) }
+{
+    let action = if is_in(types, step.action) {
+        TAU
+    } else {
+        step.action
+    };
+    let inner = Box::new(alloc, step.target)?;
+    Ok(Step {
+        action,
+        signals: step.signals,
+        rate: step.rate,
+        target: Term::Hide(inner, set),
+    })
 }

@@ -87,7 +87,7 @@ pub fn steps(alloc: Global, model: &Model, term: &Term) -> Result<StepList, Step
 {
     model.is_sound();
     let part = part_of(alloc, model, term)?;
-    Ok(part.steps)
+    Ok(StepList::from_vec(part.steps))
 }
 
 /// What a term does, from what its parts do.
@@ -102,11 +102,11 @@ fn part_of(alloc: Global, model: &Model, term: &Term) -> Result<Part, StepsEnd>
             let left_part = part_of(alloc, model, left)?;
             let right_part = part_of(alloc, model, right)?;
             let types = types_of(model, *set);
-            cooperation_part(alloc, types, *set, left, right, &left_part, &right_part)
+            cooperation_part(alloc, types, *set, left, right, left_part, right_part)
         }
         Term::Hide(inner, set) => {
             let inner_part = part_of(alloc, model, inner)?;
-            hiding_part(alloc, types_of(model, *set), *set, &inner_part)
+            hiding_part(alloc, types_of(model, *set), *set, inner_part)
         }
     }
 }
@@ -123,11 +123,11 @@ fn leaf_part(alloc: Global, model: &Model, leaf: u32) -> Result<Part, StepsEnd>
 }
 
 /// The activities of a leaf, as steps.
-fn leaf_steps(alloc: Global, activities: &[Activity]) -> Result<StepList, AllocError>
-    ensures steps { IfOk result (λ list. list ≡ map step_of activities.now) }
-    ensures in_range { IfOk result (λ list. AreNodesInRange (step_nodes list)) }
+fn leaf_steps(alloc: Global, activities: &[Activity]) -> Result<Vec<Step>, AllocError>
+    ensures steps { IfOk result (λ list. list.items ≡ map step_of activities.now) }
+    ensures in_range { IfOk result (λ list. AreNodesInRange (step_nodes list.items)) }
 {
-    let mut list = StepList::new(alloc);
+    let mut list: Vec<Step> = Vec::new(alloc);
     for activity in activities {
         activity.rate.valid();
         list.push(Step {

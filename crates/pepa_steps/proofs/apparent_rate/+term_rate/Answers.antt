@@ -32,7 +32,7 @@ returns-in-Leaf t c = leaf_answers _ c.args.model.now _ _ _ _ (ap term_of c.in-L
 
 pub returns-in_ok-right-in-Coop : goal.returns-in_ok-right-in-Coop
 returns-in_ok-right-in-Coop t c =
-    coop_answers _ c.args.model.now _ _ _ _ _ _ _ _ (ap term_of c.in-Coop.is) c.types_of.ensures
+    coop_answers _ c.args.model.now _ _ _ _ _ _ _ _ (ap term_of c.in-Coop.is) c.types_of.ensures.is
     (rw c.deref.ensures at c.in_ok-left-in-Coop.ensures)
     (rw c.deref-in-Coop.ensures at c.in_ok-right-in-Coop.ensures)
     c.rate_of_cooperation.ensures

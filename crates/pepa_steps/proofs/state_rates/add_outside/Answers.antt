@@ -15,7 +15,7 @@ loop-action-init c =
     let ordered : IsStrictlySortedBy nat_cmp (map (λ e. e.0) c.args.others.now.entries) = search rules in
     let same : c.args.others.now.entries ≡ c.into_iter-action-iterator.result = search rules in
     subst (λ (rest : List (ℕ × Rate)). LoopKeeps c.args.first.entries (outside c.args.types.now c.args.others.now.entries) c.args.first.entries (outside c.args.types.now rest)) same
-    (begins_outside _ _ _ c.requires ordered)
+    (begins_outside _ _ _ c.requires.fine ordered)
 
 pub loop-action-preserved-in-Continue-1 : goal.loop-action-preserved-in-Continue-1
 loop-action-preserved-in-Continue-1 c =

@@ -15,41 +15,41 @@ loop-step-init c = adds_none _ _ refl
 pub push_joint_steps-requires-clause-left_rated : goal.push_joint_steps-requires-clause-left_rated
 push_joint_steps-requires-clause-left_rated c =
     c.requires.left (step_node c.step-item.result)
-    (node_in c.args.left.now.steps _ _ c.step-item.result c.as_slice-step-items.ensures c.loop-step-test.true c.step-item.is) (sym c.if-is_in.ensures)
+    (node_in c.args.left.now.steps.items _ _ c.step-item.result c.as_slice-step-items.ensures.value c.loop-step-test.true c.step-item.is) (sym c.if-is_in.ensures)
 
 pub returns-in_err-push_joint_steps : goal.returns-in_err-push_joint_steps
 returns-in_err-push_joint_steps c =
     let p = err_from_is_err_and c.from_residual-in_err-push_joint_steps.result c.from_residual-in_err-push_joint_steps.ensures.1 in
     rw (p.1, p.2)
-    (joining_stops c.args.types.now c.args.set c.args.left.now.rates.entries c.args.right.now.rates.entries (step_nodes c.args.left.now.steps) (step_nodes c.args.right.now.steps)
-    (step_node c.step-item.result) (step_nodes c.args.list.now) (step_nodes c.loop-step.list) (step_nodes c.push_joint_steps.new.list) _
-    (node_in c.args.left.now.steps _ _ c.step-item.result c.as_slice-step-items.ensures c.loop-step-test.true c.step-item.is) (sym c.if-is_in.ensures)
+    (joining_stops c.args.types.now c.args.set c.args.left.now.rates.entries c.args.right.now.rates.entries (step_nodes c.args.left.now.steps.items) (step_nodes c.args.right.now.steps.items)
+    (step_node c.step-item.result) (step_nodes c.args.list.now.items) (step_nodes c.loop-step.list.items) (step_nodes c.push_joint_steps.new.list.items) _
+    (node_in c.args.left.now.steps.items _ _ c.step-item.result c.as_slice-step-items.ensures.value c.loop-step-test.true c.step-item.is) (sym c.if-is_in.ensures)
     c.in_err-push_joint_steps.ensures)
 
 pub loop-step-preserved : goal.loop-step-preserved
 loop-step-preserved c =
-    let partners = subst (λ (steps : List Step). HasPartners c.args.types.now (step_nodes steps) c.in_ok-partners.partners.entries) c.as_slice.ensures c.in_ok-partners.ensures in
+    let partners = subst (λ (steps : List Step). HasPartners c.args.types.now (step_nodes steps) c.in_ok-partners.partners.entries) c.as_slice.ensures.value c.in_ok-partners.ensures in
     let grows = nodes_more c.as_slice-step-items.result.now c.loop-step.step-index c.step-item.result c.loop-step-test.true c.step-item.is in
     elim c.if-is_in.branch [
       | then-is_in+in-Some+in_ok-push_joint_steps w ↦
-          adds_to _ _ _ _ (ap step_nodes w.list-is)
-          (joins c.args.types.now c.args.set _ _ _ _ (step_node c.step-item.result) (step_nodes c.args.right.now.steps) grows _ _ c.loop-step.invariant _
+          adds_to _ _ _ _ (ap (λ v. step_nodes v.items) w.list-is)
+          (joins c.args.types.now c.args.set _ _ _ _ (step_node c.step-item.result) (step_nodes c.args.right.now.steps.items) grows _ _ c.loop-step.invariant _
           (sym w.if-is_in.ensures) w.in_ok-push_joint_steps.ensures)
       | then-is_in+in_default w ↦
-          adds_to _ _ _ _ (ap step_nodes w.list-is)
-          (joins_none c.args.types.now c.args.set _ _ _ _ (step_node c.step-item.result) (step_nodes c.args.right.now.steps) grows _ _ c.loop-step.invariant
+          adds_to _ _ _ _ (ap (λ v. step_nodes v.items) w.list-is)
+          (joins_none c.args.types.now c.args.set _ _ _ _ (step_node c.step-item.result) (step_nodes c.args.right.now.steps.items) grows _ _ c.loop-step.invariant
           (sym w.if-is_in.ensures)
-          (nothing_joined c.args.set _ _ (step_node c.step-item.result) (step_nodes c.args.right.now.steps)
-          (no_places c.args.types.now (step_nodes c.args.right.now.steps) _ _ partners (sym w.if-is_in.ensures) w.in_default.ensures.value)))
+          (nothing_joined c.args.set _ _ (step_node c.step-item.result) (step_nodes c.args.right.now.steps.items)
+          (no_places c.args.types.now (step_nodes c.args.right.now.steps.items) _ _ partners (sym w.if-is_in.ensures) w.in_default.ensures.value)))
       | else-is_in w ↦
-          adds_to _ _ _ _ (ap step_nodes w.list-is)
-          (joins_same c.args.types.now c.args.set _ _ _ _ (step_node c.step-item.result) (step_nodes c.args.right.now.steps) grows _ _ c.loop-step.invariant
+          adds_to _ _ _ _ (ap (λ v. step_nodes v.items) w.list-is)
+          (joins_same c.args.types.now c.args.set _ _ _ _ (step_node c.step-item.result) (step_nodes c.args.right.now.steps.items) grows _ _ c.loop-step.invariant
           (sym w.if-is_in.ensures))
     ]
 
 pub returns : goal.returns
 returns c =
     adds_same _ _ _ _
-    (ap (λ (steps : List Step). joint_nodes c.args.types.now c.args.set c.args.left.now.rates.entries c.args.right.now.rates.entries (step_nodes steps) (step_nodes c.args.right.now.steps))
-    (take_all _ c.as_slice-step-items.result.now c.loop-step-test.false ∙ c.as_slice-step-items.ensures))
+    (ap (λ (steps : List Step). joint_nodes c.args.types.now c.args.set c.args.left.now.rates.entries c.args.right.now.rates.entries (step_nodes steps) (step_nodes c.args.right.now.steps.items))
+    (take_all _ c.as_slice-step-items.result.now c.loop-step-test.false ∙ c.as_slice-step-items.ensures.value))
     c.loop-step.invariant

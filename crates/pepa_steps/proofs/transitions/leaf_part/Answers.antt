@@ -14,11 +14,11 @@ returns-in_err-rates c =
     let e = get_or_from_slice_get c.args.model.now.leaves c.args.leaf _ (Const 0) c.leaf.ensures in
     rw (p.1, p.2, e)
     (leaf_fault c.args.model.now c.is_sound.ensures c.args.leaf _ c.leaf.ensures c.activities.result.now c.activities.ensures.stored
-    c.in_ok-steps.steps c.in_ok-steps.ensures.steps c.in_ok-steps.ensures.in_range _ c.in_err-rates.ensures)
+    c.in_ok-steps.steps.items c.in_ok-steps.ensures.steps c.in_ok-steps.ensures.in_range _ c.in_err-rates.ensures)
 
 pub returns : goal.returns
 returns c =
     let e = get_or_from_slice_get c.args.model.now.leaves c.args.leaf _ (Const 0) c.leaf.ensures in
     rw e
     (leaf_found c.args.model.now c.is_sound.ensures c.args.leaf _ c.leaf.ensures c.activities.result.now c.activities.ensures.stored
-    c.in_ok-steps.steps c.in_ok-steps.ensures.steps c.in_ok-steps.ensures.in_range c.in_ok-rates.rates c.in_ok-rates.ensures)
+    (record { steps = c.in_ok-steps.steps; rates = c.in_ok-rates.rates }) c.in_ok-steps.ensures.steps c.in_ok-steps.ensures.in_range c.in_ok-rates.ensures)

@@ -9,4 +9,4 @@ returns-in_err-part c =
     rw (p.1, p.2) (steps_end c.args.model.now c.is_sound.ensures (term_of c.args.term.now) c.requires _ c.in_err-part.ensures)
 
 pub returns : goal.returns
-returns c = steps_found c.args.model.now c.is_sound.ensures (term_of c.args.term.now) c.requires c.in_ok-part.part c.in_ok-part.ensures
+returns c = rw c.from_vec.ensures (steps_found c.args.model.now c.is_sound.ensures (term_of c.args.term.now) c.requires c.in_ok-part.part c.in_ok-part.ensures)
