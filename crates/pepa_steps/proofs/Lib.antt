@@ -14,6 +14,9 @@ pub mod OneVerdict
 pub mod ElementsOf
 pub mod DerivedLists
 pub mod RatedMoves
+pub mod ShareSums
+pub mod ApparentSums
+pub mod StateSums
 pub mod LeafLists
 pub mod CoopLists
 pub mod StateLists
