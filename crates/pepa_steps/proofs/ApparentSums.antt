@@ -1,5 +1,5 @@
 -- Sums of apparent rates, and of shares of them.
-use Rattle.std.proofs.Common.{◌≡◌, ◌<◌, ◌*◌, Bool, true, false, not, if◌then◌else◌, refl, sym, ◌∙◌, ap, arith}
+use Rattle.std.proofs.Common.{◌≡◌, ◌<◌, ◌+◌, ◌*◌, Bool, true, false, not, if◌then◌else◌, refl, sym, ◌∙◌, ap, arith}
 use Rattle.std.specs.Bool.{⊤}
 use Rattle.std.proofs.Math.Nat.{mul-pos}
 use Rattle.pepa_rates.specs.Fraction.{Fraction, gcd, IsPositive, IsProper}

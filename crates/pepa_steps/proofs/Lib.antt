@@ -16,6 +16,8 @@ pub mod DerivedLists
 pub mod RatedMoves
 pub mod ShareSums
 pub mod ApparentSums
+pub mod RateSums
+pub mod JointSums
 pub mod StateSums
 pub mod LeafLists
 pub mod CoopLists
