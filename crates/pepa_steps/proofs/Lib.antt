@@ -18,6 +18,7 @@ pub mod ShareSums
 pub mod ApparentSums
 pub mod RateSums
 pub mod JointSums
+pub mod ProperRates
 pub mod StateSums
 pub mod LeafLists
 pub mod CoopLists

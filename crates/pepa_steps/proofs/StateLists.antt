@@ -9,13 +9,18 @@ use Rattle.pepa_steps.specs.States.{State, AtLeaf, Cooperating, Hiding, has, Sta
 use Rattle.pepa_steps.specs.OpenStates.{OpenState, LeafOpen, CoopOpen, HideOpen, OpensState, parts_in, hidden_move, closed, closed_state, moves_in}
 use Rattle.pepa_steps.specs.Rules.{StateDerivation, Under, Concludes, IsTransitionList}
 use Rattle.pepa_steps.specs.StateVerdict.{HasFineRates}
-use Rattle.pepa_steps.specs.SumLaw.{HasNoTau}
 use Rattle.pepa_steps.proofs.ElementsOf.{from_map, all_of_front, all_of_back, map_square}
 use Rattle.pepa_steps.proofs.DerivedLists.{Derived, derived, derivation_in, transition_in, Ascends-map, derivations_ascend, zip_of_all, DerivedMoves}
 use Rattle.pepa_steps.proofs.LeafLists.{leaf_moves}
 use Rattle.pepa_steps.proofs.CoopLists.{HasRates, coop_moves}
 use Rattle.pepa_steps.proofs.RatedMoves.{are_rated}
 pub use Rattle.pepa_steps.proofs.RatedMoves.{IsRated, move_rated, contained_rated}
+
+-- no set in the tree has `tau`, whose number is 0
+abbrev pub HasNoTau : OpenState → Type 0
+HasNoTau (LeafOpen o) = Unit {0}
+HasNoTau (CoopOpen s t set) = HasNoTau s × HasNoTau t × (has set 0 ≡ false)
+HasNoTau (HideOpen s set) = HasNoTau s × (has set 0 ≡ false)
 
 -- ---- the state that a tree opened from
 

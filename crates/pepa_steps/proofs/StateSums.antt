@@ -9,16 +9,21 @@ use Rattle.pepa_model.specs.Expression.{Definition}
 use Rattle.pepa_model.specs.Derivation.{Among, Transition}
 use Rattle.pepa_model.specs.Opened.{Opened, OpenPrefix, OpenChoice, OpenConst, moves}
 use Rattle.pepa_model.specs.Apparent.{Apparent, NoRate, Rated, together, apparent_rate}
-use Rattle.pepa_steps.specs.States.{State, StateTransition, has}
+use Rattle.pepa_model.specs.PepaModel.{PepaModel, IsModel}
+use Rattle.pepa_model.specs.Terms.{IsTermOf, term_of}
+use Rattle.pepa_model.specs.declared.term.Term.{Term}
+use Rattle.pepa_steps.specs.States.{State, StateTransition, has, state_of}
 use Rattle.pepa_steps.specs.OpenStates.{OpenState, LeafOpen, CoopOpen, HideOpen, OpensState, parts_in, jointly, apparent_in, closed_state, rate_of}
 use Rattle.pepa_steps.specs.OpenStates.{leaf_move, left_move, right_move, joint_move, hidden_move, moves_in}
 use Rattle.pepa_steps.specs.Rules.{IsTransitionList}
-use Rattle.pepa_steps.specs.StateVerdict.{HasFineRates, IsFinePart}
-use Rattle.pepa_steps.specs.SumLaw.{sum_of_rates, HasNoTau, HasProperPrefixes, HasProperRates}
+use Rattle.pepa_steps.specs.StateVerdict.{HasFineRates, IsFinePart, IsWithoutFault, IsApparentRate}
+use Rattle.pepa_steps.specs.SumLaw.{sum_of_rates}
+use Rattle.pepa_steps.proofs.ProperRates.{HasProperPrefixes, HasProperRates, proper_state}
 use Rattle.pepa_steps.proofs.ElementsOf.{from_append, from_map, from_filter, all_of_front, all_of_back}
 use Rattle.pepa_steps.proofs.NodeLists.{all_same}
-use Rattle.pepa_steps.proofs.OneState.{one_list}
-use Rattle.pepa_steps.proofs.StateLists.{transition_list}
+use Rattle.pepa_steps.proofs.OneState.{one_list, one_tree}
+use Rattle.pepa_steps.proofs.StateLists.{HasNoTau, transition_list}
+use Rattle.pepa_steps.proofs.WithoutTau.{state_without_tau}
 use Rattle.pepa_steps.proofs.StateParts.{whole_in}
 use Rattle.pepa_steps.proofs.ApparentSums.{IsDefined, IsLowest, IsLowestRate, IsProperRate, lowest_positive, proper_defined, fine_proper, rate_of-positive}
 use Rattle.pepa_steps.proofs.ApparentSums.{together-lowest, together-none, jointly-lowest, in_all, both_sides}
@@ -193,9 +198,16 @@ module _ (a : ℕ) (positive : 0 < a) where
       sum-hidden a set positive (moves_in s)
       ∙ ap (λ (x : Apparent). if has set a then NoRate else x) (sum_of_moves s h (all_of_front HasFineRates (parts_in s) (HideOpen s set ∷ []) fine))
 
-pub sums_of_rates : (definitions : List Definition) (state : State) (tree : OpenState) (ts : List StateTransition) (action : ℕ) → 0 < action → OpensState definitions state tree
+pub sum_of_list : (definitions : List Definition) (state : State) (tree : OpenState) (ts : List StateTransition) (action : ℕ) → 0 < action → OpensState definitions state tree
     → HasNoTau tree → AllByRecursion IsFinePart (parts_in tree) → HasProperRates tree → IsTransitionList definitions state ts → sum_of_rates action ts ≡ apparent_in tree action
-sums_of_rates definitions state tree ts action positive opens none fine proper list =
+sum_of_list definitions state tree ts action positive opens none fine proper list =
     let rates = all_same IsFinePart HasFineRates (λ part fine. fine.rates) (parts_in tree) fine in
     let same = one_list definitions state ts (moves_in tree) list (transition_list definitions state tree opens none rates) in
     ap (sum_of_rates action) same ∙ sum_of_moves action positive tree proper rates
+
+pub sums_of_rates : (m : PepaModel) (term : Term) (ts : List StateTransition) (action : ℕ) (rate : Apparent) → IsModel m → IsTermOf m term → IsWithoutFault m.bodies (state_of m term)
+    → IsTransitionList m.bodies (state_of m term) ts → 0 < action → IsApparentRate m.bodies (state_of m term) action rate → sum_of_rates action ts ≡ rate
+sums_of_rates m term ts action rate sound of_model (tree, opens, fine) list positive (other, opens_too, fine_too, is) =
+    let same = one_tree m.bodies (state_of m term) tree other opens opens_too in
+    sum_of_list m.bodies (state_of m term) tree ts action positive opens (state_without_tau m sound (term_of term) tree of_model opens) fine (proper_state m sound (term_of term) tree opens) list
+    ∙ ap (λ (x : OpenState). apparent_in x action) same ∙ is

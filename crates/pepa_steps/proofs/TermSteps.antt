@@ -14,8 +14,7 @@ use Rattle.pepa_steps.specs.declared.parts.Part.{Part}
 use Rattle.pepa_steps.specs.declared.transitions.StepsEnd.{StepsEnd}
 use Rattle.pepa_steps.specs.declared.transitions.StepsEnd.TheVariants.{Fault, Memory}
 use Rattle.pepa_steps.proofs.NodeLists.{all_from_each, all_same}
-use Rattle.pepa_steps.specs.SumLaw.{HasNoTau}
-use Rattle.pepa_steps.proofs.StateLists.{transition_list}
+use Rattle.pepa_steps.proofs.StateLists.{HasNoTau, transition_list}
 use Rattle.pepa_steps.proofs.StateOpens.{state_opens}
 use Rattle.pepa_steps.proofs.StateParts.{StaysIn}
 use Rattle.pepa_steps.proofs.CoopStates.{has_no_tau}

@@ -7,7 +7,7 @@ use Rattle.pepa_model.specs.PepaModel.{PepaModel, IsModel}
 use Rattle.pepa_model.specs.Terms.{TermNode, LeafNode, CoopNode, HideNode, IsNodeOf}
 use Rattle.pepa_steps.specs.States.{has, node_state}
 use Rattle.pepa_steps.specs.OpenStates.{OpenState, LeafOpen, CoopOpen, HideOpen, OpensState}
-use Rattle.pepa_steps.specs.SumLaw.{HasNoTau}
+use Rattle.pepa_steps.proofs.StateLists.{HasNoTau}
 
 or_none : (b : Bool) (x : ℕ) → 0 < x → b ≡ false → ((0 == x) || b) ≡ false
 or_none b x positive none = grind (arith, nat_tests)
