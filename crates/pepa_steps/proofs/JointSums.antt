@@ -6,15 +6,14 @@ use Rattle.pepa_rates.specs.Fraction.{IsPositive}
 use Rattle.pepa_rates.specs.Sum.{fraction_of}
 use Rattle.pepa_rates.specs.Share.{share_of}
 use Rattle.pepa_rates.specs.declared.rate.Rate.{Rate}
-use Rattle.pepa_model.specs.Derivation.{Among}
 use Rattle.pepa_model.specs.Apparent.{Apparent, NoRate, Rated, Undefined, together}
 use Rattle.pepa_steps.specs.States.{StateTransition}
 use Rattle.pepa_steps.specs.OpenStates.{joint_move, rate_of}
 use Rattle.pepa_steps.specs.SumLaw.{sum_of_rates}
 use Rattle.pepa_steps.proofs.ElementsOf.{from_map, from_filter, from_flat_map}
 use Rattle.pepa_steps.proofs.ShareSums.{share-positive}
-use Rattle.pepa_steps.proofs.ApparentSums.{IsPositiveRate, IsDefined, scaled, scaled-together, second-additive, in_all, in_all-together, in_all-none}
-use Rattle.pepa_steps.proofs.ApparentSums.{left_defined, right_defined}
+use Rattle.pepa_steps.proofs.ApparentSums.{IsDefined, scaled, scaled-together, second-additive, in_all, in_all-together, in_all-none}
+use Rattle.pepa_steps.proofs.ApparentSums.{right_defined}
 use Rattle.pepa_steps.proofs.RateSums.{HasPositive, ArePositive, rest_positive, own, own-positive, own_other, own_same, sum-positive, sum-append, sum-other}
 
 -- ---- their rates are positive

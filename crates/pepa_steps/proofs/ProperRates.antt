@@ -8,7 +8,7 @@ use Rattle.pepa_rates.specs.declared.rate.Rate.TheVariants.{Active, Passive}
 use Rattle.pepa_model.specs.Expression.{Expression, Const, Prefixed, Chosen, Shape, LeafShape, ConstShape, CoopShape, HideShape, Definition, Sequentially, Compoundly}
 use Rattle.pepa_model.specs.Opened.{Opened, OpenPrefix, OpenChoice, OpenConst, Opens}
 use Rattle.pepa_model.specs.Spelling.{IsWrittenRate, HasWrittenRates, HasWrittenShape, HasWrittenDefinition}
-use Rattle.pepa_model.specs.Leaves.{each_once, without, same_expression, followers, components, components_defined, sequential_constants, leaves_of}
+use Rattle.pepa_model.specs.Leaves.{each_once, same_expression, followers, components, components_defined, sequential_constants, leaves_of}
 use Rattle.pepa_model.specs.PepaModel.{PepaModel, IsModel}
 use Rattle.pepa_model.specs.Terms.{TermNode, LeafNode, CoopNode, HideNode}
 use Rattle.pepa_steps.specs.States.{node_state}

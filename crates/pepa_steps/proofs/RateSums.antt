@@ -1,21 +1,17 @@
 -- Sums of the rates of transitions, over lists that are put together, mapped and filtered.
-use Rattle.std.proofs.Common.{◌≡◌, ◌==◌, ℕ, suc, ◌<◌, Bool, true, false, if◌then◌else◌, cond, List, [], ◌∷◌, ◌++◌, map, inl, inr, refl, sym, ap, subst, ◌∙◌, arith}
-use Rattle.std.specs.List.{filter, flat_map}
-use Rattle.std.proofs.lemmas.Bool.{eqb-true, eqb-false, eq-eqb, ne_eqb}
-use Rattle.std.proofs.lemmas.Bool.Decides.{nat_tests}
+use Rattle.std.proofs.Common.{◌≡◌, ◌==◌, ℕ, ◌<◌, Bool, true, false, if◌then◌else◌, cond, List, [], ◌∷◌, ◌++◌, map, inl, inr, refl, sym, ap, ◌∙◌, arith}
+use Rattle.std.specs.List.{filter}
+use Rattle.std.proofs.lemmas.Bool.{eqb-true, ne_eqb}
 use Rattle.pepa_rates.specs.Fraction.{IsPositive}
 use Rattle.pepa_rates.specs.Sum.{fraction_of}
-use Rattle.pepa_rates.specs.Share.{share_of}
 use Rattle.pepa_rates.specs.declared.rate.Rate.{Rate}
 use Rattle.pepa_model.specs.Derivation.{Among}
-use Rattle.pepa_model.specs.Apparent.{Apparent, NoRate, Rated, Undefined, together}
+use Rattle.pepa_model.specs.Apparent.{Apparent, NoRate, Rated, together}
 use Rattle.pepa_steps.specs.States.{has, StateTransition}
-use Rattle.pepa_steps.specs.OpenStates.{joint_move, hidden_move, rate_of}
+use Rattle.pepa_steps.specs.OpenStates.{hidden_move}
 use Rattle.pepa_steps.specs.SumLaw.{sum_of_rates}
-use Rattle.pepa_steps.proofs.ElementsOf.{from_map, from_filter, from_flat_map}
-use Rattle.pepa_steps.proofs.ShareSums.{share-positive}
-use Rattle.pepa_steps.proofs.ApparentSums.{IsPositiveRate, IsDefined, IsAdditive, scaled, scaled-together, second-additive, in_all, in_all-together, in_all-none}
-use Rattle.pepa_steps.proofs.ApparentSums.{together-positive, together-assoc, left_defined, right_defined}
+use Rattle.pepa_steps.proofs.ApparentSums.{IsPositiveRate}
+use Rattle.pepa_steps.proofs.ApparentSums.{together-positive, together-assoc}
 
 abbrev pub HasPositive : StateTransition → Type 0
 HasPositive u = IsPositive (fraction_of u.rate)

@@ -3,7 +3,7 @@ use Rattle.std.proofs.Common.{◌≡◌, ℕ, ◌+◌, ◌*◌, ◌<◌, arith, 
 use Rattle.std.proofs.Math.Nat.{mul-pos}
 use Rattle.pepa_rates.specs.Fraction.{Fraction, reduced, IsPositive}
 use Rattle.pepa_rates.specs.Sum.{sum_of, fraction_of}
-use Rattle.pepa_rates.specs.Share.{least_of, with_fraction, share_of}
+use Rattle.pepa_rates.specs.Share.{least_of, share_of}
 use Rattle.pepa_rates.specs.declared.rate.Rate.{Rate}
 use Rattle.pepa_rates.proofs.LowestTerms.{reduced-same, reduced-cross, reduced-positive}
 use Rattle.pepa_rates.proofs.Sums.{reduced-mul_left, reduced_along, sum_of-positive}

@@ -25,7 +25,7 @@ use Rattle.pepa_steps.proofs.OneState.{one_list, one_tree}
 use Rattle.pepa_steps.proofs.StateLists.{HasNoTau, transition_list}
 use Rattle.pepa_steps.proofs.WithoutTau.{state_without_tau}
 use Rattle.pepa_steps.proofs.StateParts.{whole_in}
-use Rattle.pepa_steps.proofs.ApparentSums.{IsDefined, IsLowest, IsLowestRate, IsProperRate, lowest_positive, proper_defined, fine_proper, rate_of-positive}
+use Rattle.pepa_steps.proofs.ApparentSums.{IsDefined, IsLowestRate, IsProperRate, lowest_positive, proper_defined, fine_proper, rate_of-positive}
 use Rattle.pepa_steps.proofs.ApparentSums.{together-lowest, together-none, jointly-lowest, in_all, both_sides}
 use Rattle.pepa_steps.proofs.RateSums.{HasPositive, ArePositive, sum-append, sum-map, sum-filter, sum-hidden}
 use Rattle.pepa_steps.proofs.JointSums.{joints-positive, sum-joints}
