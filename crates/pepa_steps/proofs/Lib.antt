@@ -14,6 +14,12 @@ pub mod OneVerdict
 pub mod ElementsOf
 pub mod DerivedLists
 pub mod RatedMoves
+pub mod ShareSums
+pub mod ApparentSums
+pub mod RateSums
+pub mod JointSums
+pub mod ProperRates
+pub mod StateSums
 pub mod LeafLists
 pub mod CoopLists
 pub mod StateLists

@@ -2,6 +2,7 @@ pub mod States
 pub mod OpenStates
 pub mod Rules
 pub mod StateVerdict
+pub mod SumLaw
 pub mod ApparentAnswers
 pub mod ActionRates
 pub mod StateRates

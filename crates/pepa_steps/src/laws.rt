@@ -1,9 +1,14 @@
 //! Laws of the definitions. Each function's contract is a law, and a call costs nothing.
-ghost use Rattle.std.specs.Prelude.{◌≡◌, List};
+ghost use Rattle.std.specs.Prelude.{◌≡◌, ℕ, ◌<◌, List};
 ghost use Rattle.pepa_model.specs.Expression.{Definition};
-ghost use Rattle.pepa_steps.specs.States.{State, StateTransition};
+ghost use Rattle.pepa_model.specs.Apparent.{Apparent};
+ghost use Rattle.pepa_model.specs.PepaModel.{PepaModel, IsModel};
+ghost use Rattle.pepa_model.specs.Terms.{IsTermOf};
+ghost use Rattle.pepa_model.specs.declared.term.Term.{Term};
+ghost use Rattle.pepa_steps.specs.States.{State, StateTransition, state_of};
 ghost use Rattle.pepa_steps.specs.Rules.{IsTransitionList};
-ghost use Rattle.pepa_steps.specs.StateVerdict.{PartFault, IsVerdict, IsWithoutFault};
+ghost use Rattle.pepa_steps.specs.StateVerdict.{PartFault, IsVerdict, IsWithoutFault, IsApparentRate};
+ghost use Rattle.pepa_steps.specs.SumLaw.{sum_of_rates};
 
 /// A law: a state has at most one transition list.
 pub fn one_list()
@@ -14,4 +19,9 @@ pub fn one_list()
 pub fn one_verdict()
     ensures one { (definitions : List Definition) (state : State) (f g : PartFault) → IsVerdict definitions state f → IsVerdict definitions state g → f ≡ g }
     ensures or_none { (definitions : List Definition) (state : State) (f : PartFault) → IsVerdict definitions state f → ¬ IsWithoutFault definitions state }
+{}
+
+/// A law: where no part of a state of a model has a fault, the rates of its transitions of an action type but `tau` have the exact sum that is its apparent rate of it, and it has none where it has no such transition.
+pub fn sums_of_rates()
+    ensures { (m : PepaModel) (term : Term) (ts : List StateTransition) (action : ℕ) (rate : Apparent) → IsModel m → IsTermOf m term → IsWithoutFault m.bodies (state_of m term) → IsTransitionList m.bodies (state_of m term) ts → 0 < action → IsApparentRate m.bodies (state_of m term) action rate → sum_of_rates action ts ≡ rate }
 {}
