@@ -129,11 +129,6 @@ together-assoc (Rated r) (Rated s) Undefined h k l = sum_undefined r s
 together-assoc (Rated r) Undefined z h k l = refl
 together-assoc Undefined y z h k l = refl
 
-pub left_defined : (x y : Apparent) → IsDefined (together x y) → IsDefined x
-left_defined NoRate y h = tt
-left_defined (Rated r) y h = tt
-left_defined Undefined y h = h
-
 pub right_defined : (x y : Apparent) → IsDefined (together x y) → IsDefined y
 right_defined x NoRate h = tt
 right_defined x (Rated s) h = tt

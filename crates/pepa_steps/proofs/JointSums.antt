@@ -12,8 +12,7 @@ use Rattle.pepa_steps.specs.OpenStates.{joint_move, rate_of}
 use Rattle.pepa_steps.specs.SumLaw.{sum_of_rates}
 use Rattle.pepa_steps.proofs.ElementsOf.{from_map, from_filter, from_flat_map}
 use Rattle.pepa_steps.proofs.ShareSums.{share-positive}
-use Rattle.pepa_steps.proofs.ApparentSums.{IsDefined, scaled, scaled-together, second-additive, in_all, in_all-together, in_all-none}
-use Rattle.pepa_steps.proofs.ApparentSums.{right_defined}
+use Rattle.pepa_steps.proofs.ApparentSums.{IsDefined, right_defined, scaled, scaled-together, second-additive, in_all, in_all-together, in_all-none}
 use Rattle.pepa_steps.proofs.RateSums.{HasPositive, ArePositive, rest_positive, own, own-positive, own_other, own_same, sum-positive, sum-append, sum-other}
 
 -- ---- their rates are positive

@@ -10,8 +10,7 @@ use Rattle.pepa_model.specs.Apparent.{Apparent, NoRate, Rated, together}
 use Rattle.pepa_steps.specs.States.{has, StateTransition}
 use Rattle.pepa_steps.specs.OpenStates.{hidden_move}
 use Rattle.pepa_steps.specs.SumLaw.{sum_of_rates}
-use Rattle.pepa_steps.proofs.ApparentSums.{IsPositiveRate}
-use Rattle.pepa_steps.proofs.ApparentSums.{together-positive, together-assoc}
+use Rattle.pepa_steps.proofs.ApparentSums.{IsPositiveRate, together-positive, together-assoc}
 
 abbrev pub HasPositive : StateTransition → Type 0
 HasPositive u = IsPositive (fraction_of u.rate)
@@ -44,6 +43,10 @@ own_other a n r h = ap (λ (b : Bool). if b then Rated r else NoRate) h
 
 pub own_same : (a n : ℕ) (r : Rate) → (n == a) ≡ true → own a n r ≡ Rated r
 own_same a n r h = ap (λ (b : Bool). if b then Rated r else NoRate) h
+
+nothing : (b : Bool) → (if b then NoRate else NoRate) ≡ NoRate
+nothing true = refl
+nothing false = refl
 
 -- ---- lists
 
@@ -85,10 +88,6 @@ module _ (a : ℕ) where
   own_filtered : (test : ℕ → Bool) (n : ℕ) (r : Rate) → (if test n then own a n r else NoRate) ≡ (if test a then own a n r else NoRate)
   own_filtered test n r = of_test (n == a) refl
     where
-      nothing : (b : Bool) → (if b then NoRate else NoRate) ≡ NoRate
-      nothing true = refl
-      nothing false = refl
-
       of_test : (b : Bool) → (n == a) ≡ b → (if test n then own a n r else NoRate) ≡ (if test a then own a n r else NoRate)
       of_test true same = ap (λ (x : ℕ). if test x then own a n r else NoRate) (eqb-true n a same)
       of_test false other =
@@ -99,12 +98,8 @@ module _ (a : ℕ) where
   if_together true x y = refl
   if_together false x y = refl
 
-  if_none : (b : Bool) → NoRate ≡ (if b then NoRate else NoRate)
-  if_none true = refl
-  if_none false = refl
-
   pub sum-filter : (test : ℕ → Bool) (us : List StateTransition) → sum_of_rates a (filter (λ u. test u.action) us) ≡ (if test a then sum_of_rates a us else NoRate)
-  sum-filter test [] = if_none (test a)
+  sum-filter test [] = sym (nothing (test a))
   sum-filter test (u ∷ us) =
       let rest : List StateTransition = filter (λ (u : StateTransition). test u.action) us in
       sum_kept (test u.action) u rest
@@ -121,10 +116,6 @@ own_hidden a n r set positive = of_test (n == a) refl
     hidden_same true same = own_other a 0 r (ne_eqb 0 a (λ e. omega arith))
     hidden_same false same = refl
 
-    nothing : (b : Bool) → (if b then NoRate else NoRate) ≡ NoRate
-    nothing true = refl
-    nothing false = refl
-
     hidden_other : (b : Bool) → (n == a) ≡ false → own a (if b then 0 else n) r ≡ NoRate
     hidden_other true other = own_other a 0 r (ne_eqb 0 a (λ e. omega arith))
     hidden_other false other = own_other a n r other
@@ -137,12 +128,8 @@ else_together : (b : Bool) (x y : Apparent) → together (if b then NoRate else 
 else_together true x y = refl
 else_together false x y = refl
 
-else_none : (b : Bool) → NoRate ≡ (if b then NoRate else NoRate)
-else_none true = refl
-else_none false = refl
-
 pub sum-hidden : (a : ℕ) (set : List ℕ) → 0 < a → (us : List StateTransition) → sum_of_rates a (map (hidden_move set) us) ≡ (if has set a then NoRate else sum_of_rates a us)
-sum-hidden a set positive [] = else_none (has set a)
+sum-hidden a set positive [] = sym (nothing (has set a))
 sum-hidden a set positive (u ∷ us) =
     ap (λ (x : Apparent). together x (sum_of_rates a (map (hidden_move set) us))) (own_hidden a u.action u.rate set positive)
     ∙ ap (together (if has set a then NoRate else own a u.action u.rate)) (sum-hidden a set positive us)
