@@ -14,6 +14,7 @@ pub mod OneVerdict
 pub mod ElementsOf
 pub mod DerivedLists
 pub mod RatedMoves
+pub mod ShareForms
 pub mod ShareSums
 pub mod ApparentSums
 pub mod RateSums
