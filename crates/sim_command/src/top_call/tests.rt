@@ -123,10 +123,10 @@ fn steps_of_models(rt: HostRuntime) -> Result<(), Fail> {
     Ok(())
 }
 
-// What systems below are made of: P and Q have no sum of `a`, two Rs pass the range of `b`, two Ts have 65,536 ways to do `c`
+// What systems below are made of: P and Q have no sum of `a`, two Rs pass the range of `b`, two Ss have 65,536 ways to do `c`
 // together, a joint rate of U and V passes its range, and the denominators of W and X come to too large a common one.
 const STOPPING: &str = "P=(a,1).P; Q=(a,infty).Q; R=(b,4398046511103).R;\
-    A=(c,1).A; B=A+A; C=B+B; D=C+C; E=D+D; F=E+E; G=F+F; H=G+G; T=H+H;\
+    A=(c,1).A; B=A+A; C=B+B; D=C+C; E=D+D; F=E+E; G=F+F; H=G+G; S=H+H;\
     U=(d,1).U+(d,4398046511101).U; V=(d,1).V+(d,4398046511100).V;\
     W=(e,1/4398046511103).W; X=(f,1/4398046511101).X;\
     Y=(g,4398046511103).Y+(h,1).Y; Z=(g,1).Z+(h,infty).Z;\
@@ -138,23 +138,23 @@ fn stops_in_order(rt: HostRuntime) -> Result<(), Fail> {
         // Of two parts the earlier one is told.
         ("(P || Q) || (R || R)", "mixed"),
         ("(R || R) || (P || Q)", "overflow"),
-        ("(P || Q) || (T <c> T)", "mixed"),
-        ("(T <c> T) || (P || Q)", "list too long"),
+        ("(P || Q) || (S <c> S)", "mixed"),
+        ("(S <c> S) || (P || Q)", "list too long"),
         ("(P || Q) || (U <d> V)", "mixed"),
         ("(U <d> V) || (P || Q)", "overflow"),
-        ("(R || R) || (T <c> T)", "overflow"),
-        ("(T <c> T) || (R || R)", "list too long"),
-        ("(U <d> V) || (T <c> T)", "overflow"),
-        ("(T <c> T) || (U <d> V)", "list too long"),
+        ("(R || R) || (S <c> S)", "overflow"),
+        ("(S <c> S) || (R || R)", "list too long"),
+        ("(U <d> V) || (S <c> S)", "overflow"),
+        ("(S <c> S) || (U <d> V)", "list too long"),
         // Of one part, the least action type, then the count, then the derivations' rates.
         ("Y || Z", "overflow"),
         ("I || J", "mixed"),
-        ("(T || P) <c> (T || Q)", "mixed"),
-        ("(T || R) <c> (T || R)", "overflow"),
-        ("(T || U) <c,d> (T || V)", "list too long"),
+        ("(S || P) <c> (S || Q)", "mixed"),
+        ("(S || R) <c> (S || R)", "overflow"),
+        ("(S || U) <c,d> (S || V)", "list too long"),
         // The parts go before the whole, and passive rates before weights.
         ("Q || (R || R)", "overflow"),
-        ("Q || (T <c> T)", "list too long"),
+        ("Q || (S <c> S)", "list too long"),
         ("Q || (U <d> V)", "overflow"),
         ("(W || X) || (P || Q)", "mixed"),
         ("(W || X) || (U <d> V)", "overflow"),
@@ -177,7 +177,7 @@ fn stops_in_order(rt: HostRuntime) -> Result<(), Fail> {
 #[test]
 fn longest_list(rt: HostRuntime) -> Result<(), Fail> {
     let mut text = String::from_str(rt.alloc(), STOPPING)?;
-    write!(text, "(H+G+F+E+D+C+B+A) <c> (T+A)")?;
+    write!(text, "(H+G+F+E+D+C+B+A) <c> (S+A)")?;
     let answer = answer_steps(rt.alloc(), text.as_bytes())?;
     let mut count: u64 = 0;
     for byte in answer.out.as_slice() {
