@@ -69,7 +69,7 @@ module _ (m : PepaModel) where
         rated = rated;
         short = omega (arith, count, whole.short, node_count part.steps.items);
         in_range = all_unmap (λ t. InRange (fraction_of t.rate)) (node_transition m) (step_nodes part.steps.items)
-        (subst (AllByRecursion (λ t. InRange (fraction_of t.rate))) (sym h.moves) whole.in_range);
+            (subst (AllByRecursion (λ t. InRange (fraction_of t.rate))) (sym h.moves) whole.in_range);
       }
     where
       all_fine : HasFineRates tree → AllFine part.rates.entries

@@ -165,7 +165,10 @@ fn push_joint_steps(
     };
     for index in indices.as_slice() {
         let other = &right.steps.as_slice()[*index as usize];
-        add_step(list, joint_step(alloc, step, left_rate, other, right_rate, set)?)?;
+        add_step(
+            list,
+            joint_step(alloc, step, left_rate, other, right_rate, set)?,
+        )?;
     }
     Ok(())
 }
