@@ -1,6 +1,5 @@
 -- The whole verdict on a state: the first fault of its parts, and else what its transitions together are refused for.
-use Rattle.std.specs.Prelude.{◌≡◌, ⊤, List, map}
-use Rattle.pepa_rates.specs.Fraction.{Fraction}
+use Rattle.std.specs.Prelude.{⊤, List, map}
 use Rattle.pepa_rates.specs.Sum.{fraction_of}
 use Rattle.pepa_rates.specs.Weights.{HaveWeights}
 use Rattle.pepa_rates.specs.declared.rate.Rate.{Rate}

@@ -24,14 +24,12 @@ pub fn one_verdict()
 /// A law: where no part of a state of a model has a fault, the rates of its transitions of each action type but `tau` have the
 /// exact sum that is its apparent rate of it, and it has none where it has no such transition.
 pub fn sums_of_rates()
-    ensures {
-        (m : PepaModel) (term : Term) (ts : List StateTransition) (action : ℕ) (rate : Apparent)
+    ensures { (m : PepaModel) (term : Term) (ts : List StateTransition) (action : ℕ) (rate : Apparent)
         → IsModel m
         → IsTermOf m term
         → IsWithoutFault m.bodies (state_of m term)
         → IsTransitionList m.bodies (state_of m term) ts
         → 0 < action
         → IsApparentRate m.bodies (state_of m term) action rate
-        → sum_of_rates action ts ≡ rate
-    }
+        → sum_of_rates action ts ≡ rate }
 {}
