@@ -1,9 +1,7 @@
 //! The whole call over devices in memory.
 use super::*;
-use crate::answer::answer_steps;
 use sim_outside::{MemSink, MemSource};
 use std::alloc::AllocError;
-use std::fmt::Write;
 use std::test::Fail;
 
 /// The devices of a call: the numbers of the reads and writes that fail, from 1, and the room of the output.
@@ -132,6 +130,16 @@ const STOPPING: &str = "P=(a,1).P; Q=(a,infty).Q; R=(b,4398046511103).R;\
     Y=(g,4398046511103).Y+(h,1).Y; Z=(g,1).Z+(h,infty).Z;\
     I=(i,1).I+(j,4398046511103).I; J=(i,infty).J+(j,1).J;";
 
+// Whether `steps` of this system, over those lines, is stopped so.
+fn is_stopped(alloc: Global, system: &str, stop: &str) -> Result<bool, AllocError> {
+    let mut text = String::from_str(alloc, STOPPING)?;
+    text.push_str(system)?;
+    let mut line = String::from_str(alloc, "stopped: ")?;
+    line.push_str(stop)?;
+    line.push_str("\n")?;
+    is_answered(alloc, "steps", &(text.as_str(), 6, "", line.as_str()))
+}
+
 #[test]
 fn stops_in_order(rt: HostRuntime) -> Result<(), Fail> {
     let table = [
@@ -162,30 +170,38 @@ fn stops_in_order(rt: HostRuntime) -> Result<(), Fail> {
         ("W || X", "weight overflow"),
     ];
     for (system, stop) in table {
-        let mut text = String::from_str(rt.alloc(), STOPPING)?;
-        write!(text, "{system}")?;
-        let mut line = String::new(rt.alloc());
-        write!(line, "stopped: {stop}\n")?;
-        let answer = answer_steps(rt.alloc(), text.as_bytes())?;
-        assert_eq!(rt; answer.line.as_slice(), line.as_bytes(), "{system}");
-        assert_eq!(rt; answer.status, 6);
+        assert!(rt; is_stopped(rt.alloc(), system, stop)?, "{system}");
     }
     Ok(())
+}
+
+// How many lines `steps` of this system, over those lines, writes.
+fn count_steps(alloc: Global, system: &str) -> Result<u64, AllocError> {
+    let mut text = String::from_str(alloc, STOPPING)?;
+    text.push_str(system)?;
+    let devices = Devices {
+        room: 2_000_000,
+        ..SOUND
+    };
+    let ended = call(alloc, &["steps"], text.as_bytes(), &devices)?;
+    Ok(count_lines(ended.1.written()))
+}
+
+fn count_lines(text: &[u8]) -> u64 {
+    let mut count: u64 = 0;
+    for byte in text {
+        if *byte == b'\n' && count < 100_000 {
+            count += 1;
+        }
+    }
+    count
 }
 
 // 255 ways meet 257, which are 65,535.
 #[test]
 fn longest_list(rt: HostRuntime) -> Result<(), Fail> {
-    let mut text = String::from_str(rt.alloc(), STOPPING)?;
-    write!(text, "(H+G+F+E+D+C+B+A) <c> (S+A)")?;
-    let answer = answer_steps(rt.alloc(), text.as_bytes())?;
-    let mut count: u64 = 0;
-    for byte in answer.out.as_slice() {
-        if *byte == b'\n' && count < 100_000 {
-            count += 1;
-        }
-    }
-    assert_eq!(rt; (answer.status, count), (0, 65_535));
+    let count = count_steps(rt.alloc(), "(H+G+F+E+D+C+B+A) <c> (S+A)")?;
+    assert_eq!(rt; count, 65_535);
     Ok(())
 }
 
