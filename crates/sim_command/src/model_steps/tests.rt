@@ -45,6 +45,7 @@ fn apparent_rates(rt: HostRuntime) -> Result<(), Fail> {
     for (input, action, want) in table {
         let model = read_model(rt.alloc(), input.as_bytes())?;
         let term = first_term(rt.alloc(), &model)?;
+        assert!(rt; action > 0);
         let found = apparent(&model, &term, action);
         let whole = found.map(|rate| rate.map(whole_rate));
         assert_eq!(rt; whole, want, "{input}");
