@@ -56,3 +56,18 @@ told() {
         passed
     fi
 }
+
+# As check_by_python SCRIPT COMPLAINT: the whole check is that tests/SCRIPT, given the program and the examples, finds nothing wrong.
+check_by_python() {
+    if ! command -v python3 >/dev/null 2>&1; then
+        skipped "python3 isn't installed"
+        exit 0
+    fi
+    build_program
+    if python3 "tests/$1" crates/pepaprobe_main/out/pepaprobe_main examples/*.pepa; then
+        passed
+    else
+        failed "$2"
+    fi
+    finish
+}
