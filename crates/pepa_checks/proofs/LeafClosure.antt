@@ -12,7 +12,8 @@ use Rattle.pepa_resolver.proofs.Findings.{no_element, contains_here, contains_th
 use Rattle.pepa_resolver.proofs.Bodies.{contains_from_get}
 use Rattle.pepa_checks.specs.Activities.{target_number, activity_in, activities_in}
 use Rattle.pepa_checks.proofs.LeafProcesses.{once_from}
-use Rattle.pepa_checks.proofs.LeafNumbers.{same_expression-Decides, once_keeps, leaf_stands}
+use Rattle.pepa_model.proofs.DistinctLeaves.{same_expression-Decides}
+use Rattle.pepa_checks.proofs.LeafNumbers.{once_keeps, leaf_stands}
 
 -- ---- what follows what follows
 

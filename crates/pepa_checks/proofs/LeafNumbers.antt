@@ -1,80 +1,20 @@
 -- Each process that a leaf may be written as has its leaf's number.
-use Rattle.std.proofs.Common.{◌≡◌, ℕ, suc, ◌+◌, ◌<◌, ◌==◌, Bool, true, false, cond, not, ◌&&◌, List, [], ◌∷◌, map, length, get_or, Option, Some, None, position, unwrap_or, slice_get, nat_lt, ◌⊎◌, inl, inr, refl, sym, ap, ◌∙◌, subst, arith}
+use Rattle.std.proofs.Common.{◌≡◌, ℕ, suc, ◌+◌, ◌<◌, Bool, true, false, cond, not, List, [], ◌∷◌, map, length, get_or, Option, Some, None, position, unwrap_or, slice_get, nat_lt, ◌⊎◌, inl, inr, refl, sym, ap, ◌∙◌, subst, arith}
 use Rattle.std.specs.Bool.{Decides}
 use Rattle.std.specs.List.{Contains, position_or_len}
 use Rattle.std.proofs.lemmas.Bool.{false≢true}
-use Rattle.std.proofs.lemmas.Bool.Decides.{Decides-eqb, nat_tests}
+use Rattle.std.proofs.lemmas.Bool.Decides.{nat_tests}
 use Rattle.std.proofs.lemmas.List.Quantifiers.{position-Some}
 use Rattle.std.proofs.lemmas.Option.{slice_get-get_or}
-use Rattle.pepa_rates.specs.Fraction.{Fraction}
-use Rattle.pepa_rates.specs.declared.rate.Rate.{Rate}
-use Rattle.pepa_rates.specs.declared.rate.Rate.TheVariants.{Active, Passive}
-use Rattle.pepa_model.specs.Expression.{Expression, Const, Prefixed, Chosen}
-use Rattle.pepa_model.specs.Leaves.{without, each_once, place_of, same_rate, same_expression}
+use Rattle.pepa_model.specs.Expression.{Expression}
+use Rattle.pepa_model.specs.Leaves.{without, each_once, place_of, same_expression}
+use Rattle.pepa_model.proofs.DistinctLeaves.{same_expression-Decides}
 use Rattle.pepa_resolver.specs.Named.{Named}
 use Rattle.pepa_resolver.proofs.Findings.{no_element, contains_here, contains_there, contains_cases, contains_map_to}
 use Rattle.pepa_checks.specs.Outline.{expression_in, outline_with}
 use Rattle.pepa_checks.specs.Activities.{leaf_number}
 use Rattle.pepa_checks.specs.Built.{leaf_processes}
 use Rattle.pepa_checks.proofs.LeafProcesses.{leaves_are}
-
--- ---- equal expressions
-
-both_true : (a b : Bool) → (a && b) ≡ true → (a ≡ true) × (b ≡ true)
-both_true true true e = (refl, refl)
-both_true true false e = absurd (false≢true e)
-both_true false b e = absurd (false≢true e)
-
-true_both : (a b : Bool) → a ≡ true → b ≡ true → (a && b) ≡ true
-true_both true true d e = refl
-true_both true false d e = e
-true_both false b d e = d
-
-same_fraction : (p q : Fraction) → ((p.num == q.num) && (p.den == q.den)) ≡ true → p ≡ q
-same_fraction p q e =
-    let parts = both_true (p.num == q.num) (p.den == q.den) e in
-    let make : ℕ → ℕ → Fraction = λ n d. record { num = n; den = d } in
-    ap (λ (n : ℕ). make n p.den) ((Decides-eqb p.num q.num).0 parts.0) ∙ ap (λ (d : ℕ). make q.num d) ((Decides-eqb p.den q.den).0 parts.1)
-
-fraction_same : (p : Fraction) → ((p.num == p.num) && (p.den == p.den)) ≡ true
-fraction_same p = true_both (p.num == p.num) (p.den == p.den) ((Decides-eqb p.num p.num).1 refl) ((Decides-eqb p.den p.den).1 refl)
-
-rates_same : (r s : Rate) → same_rate r s ≡ true → r ≡ s
-rates_same (Active p) (Active q) e = ap (λ (f : Fraction). Active f) (same_fraction p q e)
-rates_same (Passive p) (Passive q) e = ap (λ (f : Fraction). Passive f) (same_fraction p q e)
-rates_same (Active p) (Passive q) e = absurd (false≢true e)
-rates_same (Passive p) (Active q) e = absurd (false≢true e)
-
-rate_same : (r : Rate) → same_rate r r ≡ true
-rate_same (Active p) = fraction_same p
-rate_same (Passive p) = fraction_same p
-
-expressions_same : (x y : Expression) → same_expression x y ≡ true → x ≡ y
-expressions_same (Const c) (Const d) e = ap (λ (n : ℕ). Const n) ((Decides-eqb c d).0 e)
-expressions_same (Const c) (Prefixed b s y) e = absurd (false≢true e)
-expressions_same (Const c) (Chosen y v) e = absurd (false≢true e)
-expressions_same (Prefixed a r x) (Const d) e = absurd (false≢true e)
-expressions_same (Prefixed a r x) (Prefixed b s y) e =
-    let first = both_true (a == b) (same_rate r s && same_expression x y) e in
-    let others = both_true (same_rate r s) (same_expression x y) first.1 in
-    ap (λ (n : ℕ). Prefixed n r x) ((Decides-eqb a b).0 first.0)
-    ∙ ap (λ (t : Rate). Prefixed b t x) (rates_same r s others.0)
-    ∙ ap (λ (z : Expression). Prefixed b s z) (expressions_same x y others.1)
-expressions_same (Prefixed a r x) (Chosen y v) e = absurd (false≢true e)
-expressions_same (Chosen x w) (Const d) e = absurd (false≢true e)
-expressions_same (Chosen x w) (Prefixed b s y) e = absurd (false≢true e)
-expressions_same (Chosen x w) (Chosen y v) e =
-    let parts = both_true (same_expression x y) (same_expression w v) e in
-    ap (λ (z : Expression). Chosen z w) (expressions_same x y parts.0) ∙ ap (λ (z : Expression). Chosen y z) (expressions_same w v parts.1)
-
-expression_same : (x : Expression) → same_expression x x ≡ true
-expression_same (Const c) = (Decides-eqb c c).1 refl
-expression_same (Prefixed a r x) =
-    true_both (a == a) (same_rate r r && same_expression x x) ((Decides-eqb a a).1 refl) (true_both (same_rate r r) (same_expression x x) (rate_same r) (expression_same x))
-expression_same (Chosen x y) = true_both (same_expression x x) (same_expression y y) (expression_same x) (expression_same y)
-
-pub same_expression-Decides : (x y : Expression) → Decides (same_expression x y) (x ≡ y)
-same_expression-Decides x y = (expressions_same x y, λ e. subst (λ (z : Expression). same_expression x z ≡ true) e (expression_same x))
 
 -- ---- places
 

@@ -15,11 +15,13 @@ use Rattle.pepa_lexer.specs.declared.kinds.Sign.TheVariants.{Equals, Semicolon, 
 use Rattle.pepa_lexer.proofs.TextsInOrder.{texts_in_order}
 use Rattle.pepa_reader.specs.Terminals.{text_of}
 use Rattle.pepa_model.specs.Derivation.{Among}
+use Rattle.pepa_model.specs.Leaves.{without}
 use Rattle.pepa_model.specs.PepaModel.{AreDistinct}
+use Rattle.pepa_model.proofs.DistinctLeaves.{once_distinct}
 use Rattle.pepa_resolver.specs.Parts.{bytes_of, name_at}
 use Rattle.pepa_resolver.specs.Faults.{IsRepeated}
 use Rattle.pepa_resolver.specs.NamesAnswers.{IsTau}
-use Rattle.pepa_resolver.specs.Numbers.{without, first_places}
+use Rattle.pepa_resolver.specs.Numbers.{first_places}
 use Rattle.pepa_resolver.proofs.Findings.{contains_here, contains_there, contains_cases}
 use Rattle.pepa_resolver.proofs.Taus.{tau_by_bytes}
 
@@ -31,39 +33,21 @@ all_from P (x ∷ xs) each = (each x (contains_here x xs), all_from P xs (λ y a
 
 -- ---- each name once
 
-among_without : (x y : List ℕ) (names : List (List ℕ)) → Among y (without x names) → (¬ (x ≡ y)) × Among y names
-among_without x y [] h = absurd h
-among_without x y (z ∷ names) h = by (bytes_eq x z) refl h (among_without x y names)
-  where
-    by : (b : Bool) → bytes_eq x z ≡ b → Among y (cond (not b) (z ∷ without x names) (without x names)) → (Among y (without x names) → (¬ (x ≡ y)) × Among y names) → (¬ (x ≡ y)) × Among y (z ∷ names)
-    by true e h rest = let r = rest h in (r.0, inr r.1)
-    by false e (inl is) rest = (λ same. let t : bytes_eq x z ≡ true = (bytes_eq-Decides x z).1 (same ∙ is) in absurd cc, inl is)
-    by false e (inr h) rest = let r = rest h in (r.0, inr r.1)
-
-distinct_without : (x : List ℕ) (names : List (List ℕ)) → AreDistinct names → AreDistinct (without x names)
-distinct_without x [] h = tt
-distinct_without x (z ∷ names) h = by (bytes_eq x z) (distinct_without x names h.1)
-  where
-    by : (b : Bool) → AreDistinct (without x names) → AreDistinct (cond (not b) (z ∷ without x names) (without x names))
-    by true rest = rest
-    by false rest = (λ among. h.0 (among_without x z names among).1, rest)
-
 pub distinct_places : (names : List (List ℕ)) → AreDistinct (first_places names)
-distinct_places [] = tt
-distinct_places (x ∷ names) = (λ among. (among_without x x (first_places names) among).0 refl, distinct_without x (first_places names) (distinct_places names))
+distinct_places names = once_distinct bytes_eq bytes_eq-Decides names
 
-kept_from : (x y : List ℕ) (names : List (List ℕ)) → Contains (without x names) y → Contains names y
+kept_from : (x y : List ℕ) (names : List (List ℕ)) → Contains (without bytes_eq x names) y → Contains names y
 kept_from x y [] h = h
 kept_from x y (z ∷ names) h = by (bytes_eq x z) h (kept_from x y names)
   where
-    by : (b : Bool) → Contains (cond (not b) (z ∷ without x names) (without x names)) y → (Contains (without x names) y → Contains names y) → Contains (z ∷ names) y
+    by : (b : Bool) → Contains (cond (not b) (z ∷ without bytes_eq x names) (without bytes_eq x names)) y → (Contains (without bytes_eq x names) y → Contains names y) → Contains (z ∷ names) y
     by true h rest = contains_there z names y (rest h)
-    by false h rest = elim (contains_cases z (without x names) y h) [ inl e ↦ subst (λ (n : List ℕ). Contains (z ∷ names) n) e (contains_here z names) | inr k ↦ contains_there z names y (rest k) ]
+    by false h rest = elim (contains_cases z (without bytes_eq x names) y h) [ inl e ↦ subst (λ (n : List ℕ). Contains (z ∷ names) n) e (contains_here z names) | inr k ↦ contains_there z names y (rest k) ]
 
 pub first_no_more : (name : List ℕ) (names : List (List ℕ)) → Contains (first_places names) name → Contains names name
 first_no_more name [] h = h
 first_no_more name (x ∷ names) h =
-    elim (contains_cases x (without x (first_places names)) name h) [
+    elim (contains_cases x (without bytes_eq x (first_places names)) name h) [
       | inl e ↦ subst (λ (n : List ℕ). Contains (x ∷ names) n) e (contains_here x names)
       | inr k ↦ contains_there x names name (first_no_more name names (kept_from x name (first_places names) k))
     ]

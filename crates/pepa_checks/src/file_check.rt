@@ -118,8 +118,8 @@ fn ended(tokens: &[Token], system: &NamedProcess, end: ModelEnd) -> CheckEnd
 /// - `UnknownName`: a constant without a process line, a rate name in an activity without a rate line, or a rate name in a
 ///   rate line without a rate line above, at the name;
 /// - `TauInSet`: `tau` in the set of a cooperation or a hiding, at the word;
-/// - `BadRate`: a number, an operator's result or a weight out of range, or a passive rate where none may stand, at the
-///   number, the operator or the name;
+/// - `BadRate`: a number, an operator's result or a weight out of range, a weight that isn't whole, or the name of a passive
+///   rate where none may stand, at the number, the operator or the name;
 /// - `NotSequential`: an operand of a choice, or what follows an activity, that has a cooperation or a hiding or is a compound
 ///   constant, at its first constant or the `(` of its first activity;
 /// - `ModelCycle`: a compound constant that reaches itself, at the name of its line;

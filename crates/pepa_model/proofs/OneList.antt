@@ -15,7 +15,7 @@ same_body : (definitions : List Definition) (c : ℕ) (x y : Expression) → Def
 same_body definitions c x y h k = cc
 
 -- a derivation concludes one transition of a term
-same_conclusion : (definitions : List Definition) (d : Derivation) (e : Expression) (s t : Transition) → Concludes definitions d (LeafOf e) s → Concludes definitions d (LeafOf e) t → s ≡ t
+pub same_conclusion : (definitions : List Definition) (d : Derivation) (e : Expression) (s t : Transition) → Concludes definitions d (LeafOf e) s → Concludes definitions d (LeafOf e) t → s ≡ t
 same_conclusion definitions ByPrefix (Prefixed a r next) s t h k = h ∙ sym k
 same_conclusion definitions (ByLeft d) (Chosen x y) s t h k = same_conclusion definitions d x s t h k
 same_conclusion definitions (ByRight d) (Chosen x y) s t h k = same_conclusion definitions d y s t h k
@@ -31,7 +31,7 @@ same_conclusion definitions (ByConstant d) (Prefixed a r next) s t h k = absurd 
 same_conclusion definitions (ByConstant d) (Chosen x y) s t h k = absurd h
 
 -- no derivation precedes one that precedes it, and none itself
-never_both : (d e : Derivation) → Precedes d e → Precedes e d → ⊥
+pub never_both : (d e : Derivation) → Precedes d e → Precedes e d → ⊥
 never_both (ByLeft d) (ByLeft e) h k = never_both d e h k
 never_both (ByRight d) (ByRight e) h k = never_both d e h k
 never_both (ByConstant d) (ByConstant e) h k = never_both d e h k
@@ -46,7 +46,7 @@ never_both (ByConstant d) ByPrefix h k = absurd h
 never_both (ByConstant d) (ByLeft e) h k = absurd h
 never_both (ByConstant d) (ByRight e) h k = absurd h
 
-each_among : {X : Type 0} (P : X → Type 0) (x : X) (xs : List X) → AllByRecursion P xs → Among x xs → P x
+pub each_among : {X : Type 0} (P : X → Type 0) (x : X) (xs : List X) → AllByRecursion P xs → Among x xs → P x
 each_among P x [] h k = absurd k
 each_among P x (y ∷ ys) h (inl e) = subst P (sym e) h.0
 each_among P x (y ∷ ys) h (inr k) = each_among P x ys h.1 k
@@ -135,12 +135,12 @@ one_opening definitions e f (OpenConst c p) (OpenConst d p') is (h, (x, x_is, l)
     let y_is' : Defines definitions c y = subst (λ (n : ℕ). Defines definitions n y) (sym same) y_is in
     ap (λ (n : ℕ). OpenConst n p) same ∙ ap (λ (o : Opened). OpenConst d o) (one_opening definitions x y p p' (same_body definitions c x y x_is y_is') l l')
 
-faulty_not_fine : (x : Apparent) (f : RateFault) → HasFault x f → IsFine x → ⊥
+pub faulty_not_fine : (x : Apparent) (f : RateFault) → HasFault x f → IsFine x → ⊥
 faulty_not_fine NoRate f h k = h
 faulty_not_fine (Rated r) f h k = h.1 k
 faulty_not_fine Undefined f h k = k
 
-same_fault : (x : Apparent) (f g : RateFault) → HasFault x f → HasFault x g → f ≡ g
+pub same_fault : (x : Apparent) (f g : RateFault) → HasFault x f → HasFault x g → f ≡ g
 same_fault NoRate f g h k = absurd h
 same_fault (Rated r) f g h k = h.0 ∙ sym k.0
 same_fault Undefined f g h k = h ∙ sym k

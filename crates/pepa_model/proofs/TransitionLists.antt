@@ -19,16 +19,16 @@ AllZip-map R S f k [] (y ∷ ys) h = absurd h
 AllZip-map R S f k (x ∷ xs) [] h = absurd h
 AllZip-map R S f k (x ∷ xs) (y ∷ ys) h = (k x y h.0, AllZip-map R S f k xs ys h.1)
 
-Among-front : {X : Type 0} (x : X) (xs ys : List X) → Among x xs → Among x (xs ++ ys)
+pub Among-front : {X : Type 0} (x : X) (xs ys : List X) → Among x xs → Among x (xs ++ ys)
 Among-front x [] ys h = absurd h
 Among-front x (y ∷ xs) ys (inl e) = inl e
 Among-front x (y ∷ xs) ys (inr h) = inr (Among-front x xs ys h)
 
-Among-back : {X : Type 0} (x : X) (xs ys : List X) → Among x ys → Among x (xs ++ ys)
+pub Among-back : {X : Type 0} (x : X) (xs ys : List X) → Among x ys → Among x (xs ++ ys)
 Among-back x [] ys h = h
 Among-back x (y ∷ xs) ys h = inr (Among-back x xs ys h)
 
-Among-map : {X Y : Type 0} (f : X → Y) (x : X) (xs : List X) → Among x xs → Among (f x) (map f xs)
+pub Among-map : {X Y : Type 0} (f : X → Y) (x : X) (xs : List X) → Among x xs → Among (f x) (map f xs)
 Among-map f x [] h = absurd h
 Among-map f x (y ∷ xs) (inl e) = inl (ap f e)
 Among-map f x (y ∷ xs) (inr h) = inr (Among-map f x xs h)

@@ -1,5 +1,5 @@
 -- The numbers of a model's leaves, sets and action types, by their first places in its text: the right sides of its constants
--- in order, and then its system.
+-- in order, and then its system. The sequential constants stand before the other leaves.
 use Rattle.std.specs.Prelude.{ℕ, suc, ◌==◌, Bool, false, not, ◌&&◌, List, [], ◌∷◌, ◌++◌, filter, flat_map, position, unwrap_or, slice_index_or}
 use Rattle.pepa_rates.specs.declared.rate.Rate.{Rate}
 use Rattle.pepa_rates.specs.declared.rate.Rate.TheVariants.{Active, Passive}

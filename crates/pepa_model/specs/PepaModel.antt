@@ -120,7 +120,7 @@ AreDistinct (x ∷ xs) = (¬ Among x xs) × AreDistinct xs
 abbrev pub AreByFirstPlaces : List ℕ → ℕ → Type 0
 AreByFirstPlaces numbers count = each_once nat_eq numbers ≡ range_with_len 0 count
 
--- things are numbered by their first places, and no two that are numbered are equal
+-- no two that are numbered are equal; sets, leaves and action types are numbered by their first places
 pub record IsNumbered (m : PepaModel) : Type 0 where
   pub constants : AreDistinct m.constants
   pub actions : AreDistinct m.actions

@@ -131,14 +131,10 @@ module _ {X : Type 0} where
 
 -- ---- lists of bytes
 
-places_once : (names : List (List ℕ)) → first_places names ≡ each_once bytes_eq names
-places_once [] = refl
-places_once (name ∷ names) = ap (λ (list : List (List ℕ)). name ∷ without bytes_eq name list) (places_once names)
-
 -- distinct lists whose numbers stand by their first places are those that stand for the numbers, at their first places
 pub first_places_are : (names : List (List ℕ)) (numbers : List ℕ) → AreDistinct names → AreByFirstPlaces numbers (length names) → first_places (map (λ n. get_or names n []) numbers) ≡ names
 first_places_are names numbers distinct by_place =
-    places_once (map (λ n. get_or names n []) numbers) ∙ once_whole bytes_eq bytes_eq-Decides [] names numbers distinct by_place
+    once_whole bytes_eq bytes_eq-Decides [] names numbers distinct by_place
 
 -- the place of one of them is its number
 pub place_at : (names : List (List ℕ)) (n : ℕ) (name : List ℕ) → AreDistinct names → slice_get names n ≡ Some name → place_in names name ≡ n

@@ -9,7 +9,7 @@ use std::test::Fail;
 
 // Texts and how their models are printed.
 const TEXTS: &[(&str, &str)] = &[
-    // Numbers in lowest terms, and one blank behind each comma and round each sign.
+    // Numbers in lowest terms, and one blank behind an activity's comma and round `=`, `+` and the sign of a cooperation.
     (
         "r=6/4;P=(a,r).(b,2*infty).P;Q=(b,1).Q+((a,T).Q+(c,2).Q);P<b,a>(Q/{c})",
         "P = (a, 3/2).(b, 2*infty).P;\nQ = (b, 1).Q + ((a, infty).Q + (c, 2).Q);\nP <a,b> Q/{c}\n",

@@ -45,16 +45,16 @@ product-both_reduced n d m e n_some d_some m_some e_some =
     (cross_of_product n d p q m e r s (reduced-cross n d) (reduced-cross m e))
 
 -- (p/a) * (q/b) * l
-abbrev share_num : Fraction → Fraction → Fraction → Fraction → Fraction → ℕ
+abbrev pub share_num : Fraction → Fraction → Fraction → Fraction → Fraction → ℕ
 share_num p a q b l = p.num * a.den * (q.num * b.den) * l.num
 
-abbrev share_den : Fraction → Fraction → Fraction → Fraction → Fraction → ℕ
+abbrev pub share_den : Fraction → Fraction → Fraction → Fraction → Fraction → ℕ
 share_den p a q b l = p.den * a.num * (q.den * b.num) * l.den
 
-abbrev fraction_share : Fraction → Fraction → Fraction → Fraction → Fraction → Fraction
+abbrev pub fraction_share : Fraction → Fraction → Fraction → Fraction → Fraction → Fraction
 fraction_share p a q b l = product_of (product_of (quotient_of p a) (quotient_of q b)) l
 
-share_as_one :
+pub share_as_one :
     (p a q b l : Fraction)
     → IsPositive p
     → IsPositive a

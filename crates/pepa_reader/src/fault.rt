@@ -3,7 +3,7 @@ ghost use Rattle.std.specs.Prelude.{◌≡◌};
 use pepa_lexer::Place;
 use std::alloc::AllocError;
 
-/// Why tokens are no file, and the place of the first token that can't follow.
+/// Why tokens are refused as a file, and the place of the token at which they are.
 #[derive(Clone, Copy, Debug, PartialEq, Eq)]
 pub enum FileFault {
     /// A token that can't follow what stands before it.

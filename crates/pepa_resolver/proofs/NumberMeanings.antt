@@ -9,9 +9,10 @@ use Rattle.std.proofs.lemmas.List.Elements.{Contains-append_left, Contains-appen
 use Rattle.std.proofs.lemmas.Map.Views.{list_any-from_Contains, Contains-from_any}
 use Rattle.std.proofs.lemmas.Option.{slice_get-get_or}
 use Rattle.pepa_reader.specs.Trees.{ProcessNode, FileNode}
+use Rattle.pepa_model.specs.Leaves.{without}
 use Rattle.pepa_resolver.specs.Parts.{process_ats, constants_in, processes_of}
 use Rattle.pepa_resolver.specs.Faults.{HasNone, UnknownAt}
-use Rattle.pepa_resolver.specs.Numbers.{without, first_places, place_in, words_in, actions_of, constants_of}
+use Rattle.pepa_resolver.specs.Numbers.{first_places, place_in, words_in, actions_of, constants_of}
 use Rattle.pepa_resolver.proofs.Findings.{no_element, contains_here, contains_there, contains_cases, contains_map_to}
 
 -- ---- the place of a name
@@ -42,24 +43,24 @@ place_stands name names there = by (position (bytes_eq name) names) refl
 
 -- ---- first places lose no name
 
-kept_without : (x name : List ℕ) (names : List (List ℕ)) → bytes_eq x name ≡ false → Contains names name → Contains (without x names) name
+kept_without : (x name : List ℕ) (names : List (List ℕ)) → bytes_eq x name ≡ false → Contains names name → Contains (without bytes_eq x names) name
 kept_without x name [] apart h = absurd (no_element name h)
 kept_without x name (y ∷ names) apart h = step (bytes_eq x y) refl (contains_cases y names name h) (kept_without x name names apart)
   where
-    step : (b : Bool) → bytes_eq x y ≡ b → (y ≡ name) ⊎ Contains names name → (Contains names name → Contains (without x names) name) → Contains (cond (not b) (y ∷ without x names) (without x names)) name
+    step : (b : Bool) → bytes_eq x y ≡ b → (y ≡ name) ⊎ Contains names name → (Contains names name → Contains (without bytes_eq x names) name) → Contains (cond (not b) (y ∷ without bytes_eq x names) (without bytes_eq x names)) name
     step true e (inl k) rest = let same = subst (λ (z : List ℕ). bytes_eq x z ≡ true) k e in absurd cc
     step true e (inr there) rest = rest there
-    step false e (inl k) rest = subst (λ (z : List ℕ). Contains (y ∷ without x names) z) k (contains_here y (without x names))
-    step false e (inr there) rest = contains_there y (without x names) name (rest there)
+    step false e (inl k) rest = subst (λ (z : List ℕ). Contains (y ∷ without bytes_eq x names) z) k (contains_here y (without bytes_eq x names))
+    step false e (inr there) rest = contains_there y (without bytes_eq x names) name (rest there)
 
 pub first_there : (name : List ℕ) (names : List (List ℕ)) → Contains names name → Contains (first_places names) name
 first_there name [] h = absurd (no_element name h)
 first_there name (x ∷ names) h = step (bytes_eq x name) refl (contains_cases x names name h) (first_there name names)
   where
     step : (b : Bool) → bytes_eq x name ≡ b → (x ≡ name) ⊎ Contains names name → (Contains names name → Contains (first_places names) name) → Contains (first_places (x ∷ names)) name
-    step b e (inl k) rest = subst (λ (z : List ℕ). Contains (first_places (x ∷ names)) z) k (contains_here x (without x (first_places names)))
-    step true e (inr there) rest = subst (λ (z : List ℕ). Contains (first_places (x ∷ names)) z) ((bytes_eq-Decides x name).0 e) (contains_here x (without x (first_places names)))
-    step false e (inr there) rest = contains_there x (without x (first_places names)) name (kept_without x name (first_places names) e (rest there))
+    step b e (inl k) rest = subst (λ (z : List ℕ). Contains (first_places (x ∷ names)) z) k (contains_here x (without bytes_eq x (first_places names)))
+    step true e (inr there) rest = subst (λ (z : List ℕ). Contains (first_places (x ∷ names)) z) ((bytes_eq-Decides x name).0 e) (contains_here x (without bytes_eq x (first_places names)))
+    step false e (inr there) rest = contains_there x (without bytes_eq x (first_places names)) name (kept_without x name (first_places names) e (rest there))
 
 -- ---- the names of a file
 

@@ -9,7 +9,8 @@ use Rattle.std.proofs.lemmas.List.Quantifiers.{position-Some}
 use Rattle.std.proofs.lemmas.List.Elements.{filter-append}
 use Rattle.indexmap.specs.IndexMap.{insert_entry}
 use Rattle.pepa_reader.specs.Trees.{ProcessNode}
-use Rattle.pepa_resolver.specs.Numbers.{without, first_places, place_in, words_in}
+use Rattle.pepa_model.specs.Leaves.{without}
+use Rattle.pepa_resolver.specs.Numbers.{first_places, place_in, words_in}
 use Rattle.pepa_resolver.specs.NumberSteps.{with_name, with_names}
 
 abbrev Names : Type 0
@@ -39,16 +40,16 @@ keys-insert {V} (e ∷ entries) name v = step (bytes_eq name e.0) (list_any (byt
 
 -- ---- first places
 
-any-without : (x name : List ℕ) (names : Names) → bytes_eq name x ≡ false → list_any (bytes_eq name) (without x names) ≡ list_any (bytes_eq name) names
+any-without : (x name : List ℕ) (names : Names) → bytes_eq name x ≡ false → list_any (bytes_eq name) (without bytes_eq x names) ≡ list_any (bytes_eq name) names
 any-without x name [] apart = refl
 any-without x name (other ∷ names) apart =
     elim (true_or_false (bytes_eq x other)) [
       | inl e ↦ let same : x ≡ other = (bytes_eq-Decides x other).0 e in
           let apart' : bytes_eq name other ≡ false = subst (λ (y : List ℕ). bytes_eq name y ≡ false) same apart in
-          ap (λ (b : Bool). list_any (bytes_eq name) (cond (not b) (other ∷ without x names) (without x names))) e
+          ap (λ (b : Bool). list_any (bytes_eq name) (cond (not b) (other ∷ without bytes_eq x names) (without bytes_eq x names))) e
           ∙ any-without x name names apart
           ∙ sym (ap (λ (b : Bool). b || list_any (bytes_eq name) names) apart')
-      | inr e ↦ ap (λ (b : Bool). list_any (bytes_eq name) (cond (not b) (other ∷ without x names) (without x names))) e
+      | inr e ↦ ap (λ (b : Bool). list_any (bytes_eq name) (cond (not b) (other ∷ without bytes_eq x names) (without bytes_eq x names))) e
           ∙ ap (λ (b : Bool). bytes_eq name other || b) (any-without x name names apart)
     ]
 
@@ -58,8 +59,8 @@ with_name-there names name e = ap (λ (b : Bool). if b then names else (names ++
 pub with_name-new : (names : Names) (name : List ℕ) → list_any (bytes_eq name) names ≡ false → with_name names name ≡ names ++ name ∷ []
 with_name-new names name e = ap (λ (b : Bool). if b then names else (names ++ name ∷ [])) e
 
-without-push : (x name : List ℕ) (names : Names) (b : Bool) → bytes_eq x name ≡ b → without x (names ++ name ∷ []) ≡ without x names ++ (cond (not b) (name ∷ []) [])
-without-push x name names b e = filter-append (λ (other : List ℕ). not (bytes_eq x other)) names (name ∷ []) ∙ ap (λ (c : Bool). without x names ++ cond (not c) (name ∷ []) []) e
+without-push : (x name : List ℕ) (names : Names) (b : Bool) → bytes_eq x name ≡ b → without bytes_eq x (names ++ name ∷ []) ≡ without bytes_eq x names ++ (cond (not b) (name ∷ []) [])
+without-push x name names b e = filter-append (λ (other : List ℕ). not (bytes_eq x other)) names (name ∷ []) ∙ ap (λ (c : Bool). without bytes_eq x names ++ cond (not c) (name ∷ []) []) e
 
 pub append-nothing : (names : Names) → names ++ [] ≡ names
 append-nothing [] = refl
@@ -72,35 +73,35 @@ bytes_eq-apart x y e =
       | inr k ↦ k
     ]
 
-without-with_name : (x name : List ℕ) (names : Names) → x ∷ without x (with_name names name) ≡ with_name (x ∷ without x names) name
+without-with_name : (x name : List ℕ) (names : Names) → x ∷ without bytes_eq x (with_name names name) ≡ with_name (x ∷ without bytes_eq x names) name
 without-with_name x name names =
     elim (true_or_false (bytes_eq name x)) [
-      | inl e ↦ ap (λ (k : Names). x ∷ k) (same e) ∙ sym (with_name-there (x ∷ without x names) name (ap (λ (b : Bool). b || list_any (bytes_eq name) (without x names)) e))
+      | inl e ↦ ap (λ (k : Names). x ∷ k) (same e) ∙ sym (with_name-there (x ∷ without bytes_eq x names) name (ap (λ (b : Bool). b || list_any (bytes_eq name) (without bytes_eq x names)) e))
       | inr e ↦ other e
     ]
   where
-    same : bytes_eq name x ≡ true → without x (with_name names name) ≡ without x names
+    same : bytes_eq name x ≡ true → without bytes_eq x (with_name names name) ≡ without bytes_eq x names
     same e =
         let back : bytes_eq x name ≡ true = (bytes_eq-Decides x name).1 (sym ((bytes_eq-Decides name x).0 e)) in
         elim (true_or_false (list_any (bytes_eq name) names)) [
-          | inl a ↦ ap (without x) (with_name-there names name a)
-          | inr a ↦ ap (without x) (with_name-new names name a) ∙ without-push x name names true back ∙ append-nothing (without x names)
+          | inl a ↦ ap (without bytes_eq x) (with_name-there names name a)
+          | inr a ↦ ap (without bytes_eq x) (with_name-new names name a) ∙ without-push x name names true back ∙ append-nothing (without bytes_eq x names)
         ]
 
-    other : bytes_eq name x ≡ false → x ∷ without x (with_name names name) ≡ with_name (x ∷ without x names) name
+    other : bytes_eq name x ≡ false → x ∷ without bytes_eq x (with_name names name) ≡ with_name (x ∷ without bytes_eq x names) name
     other e =
-        let kept : list_any (bytes_eq name) (x ∷ without x names) ≡ list_any (bytes_eq name) names = ap (λ (b : Bool). b || list_any (bytes_eq name) (without x names)) e ∙ any-without x name names e in
+        let kept : list_any (bytes_eq name) (x ∷ without bytes_eq x names) ≡ list_any (bytes_eq name) names = ap (λ (b : Bool). b || list_any (bytes_eq name) (without bytes_eq x names)) e ∙ any-without x name names e in
         elim (true_or_false (list_any (bytes_eq name) names)) [
-          | inl a ↦ ap (λ (k : Names). x ∷ without x k) (with_name-there names name a) ∙ sym (with_name-there (x ∷ without x names) name (kept ∙ a))
-          | inr a ↦ ap (λ (k : Names). x ∷ without x k) (with_name-new names name a)
+          | inl a ↦ ap (λ (k : Names). x ∷ without bytes_eq x k) (with_name-there names name a) ∙ sym (with_name-there (x ∷ without bytes_eq x names) name (kept ∙ a))
+          | inr a ↦ ap (λ (k : Names). x ∷ without bytes_eq x k) (with_name-new names name a)
               ∙ ap (λ (k : Names). x ∷ k) (without-push x name names false (bytes_eq-apart name x e))
-              ∙ sym (with_name-new (x ∷ without x names) name (kept ∙ a))
+              ∙ sym (with_name-new (x ∷ without bytes_eq x names) name (kept ∙ a))
         ]
 
 first_places-push : (names : Names) (name : List ℕ) → first_places (names ++ name ∷ []) ≡ with_name (first_places names) name
 first_places-push [] name = refl
 first_places-push (x ∷ names) name =
-    ap (λ (k : Names). x ∷ without x k) (first_places-push names name) ∙ without-with_name x name (first_places names)
+    ap (λ (k : Names). x ∷ without bytes_eq x k) (first_places-push names name) ∙ without-with_name x name (first_places names)
 
 -- ---- many names behind others
 

@@ -1,12 +1,13 @@
 -- Numbers in place of a file's names. A constant's number is the place of its line among the process lines, from 0. `tau` is
 -- action 0, and the other action types are numbered from 1 by their first place in the text behind the `=` of the process
 -- lines, in order, and then in the system. `name` gives the name at an index.
-use Rattle.std.specs.Prelude.{◌≡◌, ℕ, ◌+◌, not, List, [], ◌∷◌, ◌++◌, map, filter, flat_map, length, position, unwrap_or, codes, bytes_eq}
+use Rattle.std.specs.Prelude.{◌≡◌, ℕ, ◌+◌, List, [], ◌∷◌, ◌++◌, map, flat_map, length, codes, bytes_eq}
 use Rattle.std.specs.List.{Contains}
 use Rattle.indexmap.specs.IndexMap.{keys}
 use Rattle.pepa_rates.specs.declared.rate.Rate.{Rate}
 use Rattle.pepa_rates.specs.declared.rate.Rate.TheVariants.{Passive}
 use Rattle.pepa_lexer.specs.declared.kinds.Token.{Token}
+use Rattle.pepa_model.specs.Leaves.{each_once, place_of}
 use Rattle.pepa_reader.specs.Trees.{ProcessNode, ConstantAt, PrefixAt, ChoiceOf, CoopAt, HideOf, FileNode}
 use Rattle.pepa_resolver.specs.declared.naming.NamedFile.{NamedFile}
 use Rattle.pepa_resolver.specs.Parts.{name_at, process_ats, processes_of}
@@ -17,18 +18,13 @@ use Rattle.pepa_resolver.specs.Graphs.{AreBelow}
 
 -- ---- names and their places
 
--- the names that are not this one
-abbrev pub without : List ℕ → List (List ℕ) → List (List ℕ)
-without name names = filter (λ other. not (bytes_eq name other)) names
-
 -- each name once, at its first place
 abbrev pub first_places : List (List ℕ) → List (List ℕ)
-first_places [] = []
-first_places (name ∷ names) = name ∷ without name (first_places names)
+first_places names = each_once bytes_eq names
 
 -- a name's place, or 0 if it has none
 abbrev pub place_in : List (List ℕ) → List ℕ → ℕ
-place_in names name = unwrap_or (position (bytes_eq name) names) 0
+place_in names name = place_of bytes_eq names name
 
 -- ---- the numbers of a file
 

@@ -18,7 +18,7 @@ ghost use Rattle.pepa_resolver.specs.Numbers.{words_in, place_in, constants_of, 
 ghost use Rattle.pepa_resolver.specs.StructureAnswers.{IsStructured};
 ghost use Rattle.pepa_resolver.specs.StructuredFiles.{IsNumbered, IsStoppedFor};
 
-/// A law: a file is refused at one of its tokens.
+/// A law: a file that is refused for its lines, names, sets or rates is refused at one of its tokens.
 pub fn is_refused_at_a_token()
     ensures { (input : List ℕ) (tokens : List Token) (tree : FileTree) (cause : CheckCause) (i : ℕ) → IsFileTree (terminals input tokens) tree → IsRefusedFor input tokens (file_node_of tree) cause i → i < length tokens }
 {}

@@ -9,8 +9,7 @@ use Rattle.pepa_rates.specs.declared.rate.Rate.{Rate}
 use Rattle.pepa_rates.specs.declared.rate.Rate.TheVariants.{Active, Passive}
 use Rattle.pepa_rates.proofs.LowestTerms.{reduced-lowest}
 use Rattle.pepa_rates.proofs.Sums.{sum_of-positive, sum_of-assoc}
-use Rattle.pepa_rates.proofs.Shares.{share-whole}
-use Rattle.pepa_steps.proofs.ShareForms.{fraction_share}
+use Rattle.pepa_rates.proofs.Shares.{fraction_share, share-whole}
 use Rattle.pepa_rates.proofs.Lesser.{least-keeps}
 use Rattle.pepa_model.specs.Apparent.{Apparent, NoRate, Rated, Undefined, together, apparent_of_sum, IsFine}
 use Rattle.pepa_steps.specs.OpenStates.{jointly, rate_of}

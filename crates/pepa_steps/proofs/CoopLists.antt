@@ -7,7 +7,7 @@ use Rattle.pepa_rates.specs.declared.rate.Rate.{Rate}
 use Rattle.pepa_model.specs.Expression.{Definition}
 use Rattle.pepa_model.specs.Derivation.{Among}
 use Rattle.pepa_model.specs.Apparent.{Apparent, NoRate, Rated, Undefined}
-use Rattle.pepa_steps.proofs.LeafLemmas.{Among-front, Among-back, Among-map}
+use Rattle.pepa_model.proofs.TransitionLists.{Among-front, Among-back, Among-map}
 use Rattle.pepa_steps.specs.States.{State, Cooperating, has, StateTransition}
 use Rattle.pepa_steps.specs.OpenStates.{OpenState, CoopOpen, OpensState, apparent_in, left_move, right_move, joint_move, closed_state, rate_of, moves_in}
 use Rattle.pepa_steps.specs.Rules.{StateDerivation, OnLeft, OnRight, OnBoth, HasApparent, Concludes, Precedes}

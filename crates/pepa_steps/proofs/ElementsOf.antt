@@ -3,7 +3,7 @@ use Rattle.std.proofs.Common.{◌≡◌, zero, suc, Bool, true, false, List, [],
 use Rattle.std.specs.List.{AllByRecursion, Contains, filter, flat_map}
 use Rattle.std.proofs.lemmas.List.{map-append}
 use Rattle.pepa_model.specs.Derivation.{Among}
-use Rattle.pepa_steps.proofs.LeafLemmas.{Among-front, Among-back}
+use Rattle.pepa_model.proofs.TransitionLists.{Among-front, Among-back}
 
 pub from_append : {X : Type 0} (x : X) (xs ys : List X) → Among x (xs ++ ys) → Among x xs ⊎ Among x ys
 from_append x [] ys h = inr h

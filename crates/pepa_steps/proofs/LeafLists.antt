@@ -5,7 +5,7 @@ use Rattle.pepa_model.specs.Expression.{LeafOf, Definition}
 use Rattle.pepa_model.specs.Derivation.{Derivation, Transition, InDerivationOrder, Among}
 use Rattle.pepa_model.specs.Derivation as leaf
 use Rattle.pepa_model.specs.Opened.{Opened, Opens, moves}
-use Rattle.pepa_steps.proofs.LeafLemmas as leaves
+use Rattle.pepa_model.proofs.OneList as leaves
 use Rattle.pepa_model.proofs.TransitionLists as leaf_lists
 use Rattle.pepa_steps.specs.States.{AtLeaf, StateTransition}
 use Rattle.pepa_steps.specs.OpenStates.{LeafOpen, leaf_move, closed}

@@ -8,13 +8,11 @@ pub mod MappedRates
 pub mod OutsideRates
 pub mod StateOpens
 pub mod StateApparent
-pub mod LeafLemmas
 pub mod OneState
 pub mod OneVerdict
 pub mod ElementsOf
 pub mod DerivedLists
 pub mod RatedMoves
-pub mod ShareForms
 pub mod ShareSums
 pub mod ApparentSums
 pub mod RateSums

@@ -5,9 +5,8 @@ use Rattle.pepa_rates.specs.declared.rate.Rate.{Rate}
 use Rattle.pepa_model.specs.Expression.{Definition}
 use Rattle.pepa_model.specs.Derivation.{Among}
 use Rattle.pepa_model.specs.Apparent.{Rated}
-use Rattle.pepa_model.proofs.OneList.{one_opening}
-use Rattle.pepa_steps.proofs.LeafLemmas.{each_among}
-use Rattle.pepa_steps.proofs.LeafLemmas as leaves
+use Rattle.pepa_model.proofs.OneList.{one_opening, each_among}
+use Rattle.pepa_model.proofs.OneList as leaves
 use Rattle.pepa_steps.specs.States.{State, AtLeaf, Cooperating, Hiding, StateTransition}
 use Rattle.pepa_steps.specs.OpenStates.{OpenState, LeafOpen, CoopOpen, HideOpen, OpensState, apparent_in, leaf_move, left_move, right_move, joint_move, hidden_move}
 use Rattle.pepa_steps.specs.Rules.{StateDerivation, OfLeaf, OnLeft, OnRight, OnBoth, Under, HasApparent, Concludes, Precedes, InOrder, IsTransitionList}

@@ -6,7 +6,7 @@ use Rattle.pepa_rates.specs.declared.rate.RateFault.{RateFault}
 use Rattle.pepa_model.specs.Expression.{Definition}
 use Rattle.pepa_model.specs.Apparent.{HasFault}
 use Rattle.pepa_model.specs.Verdict.{IsFirstFault}
-use Rattle.pepa_steps.proofs.LeafLemmas.{faulty_not_fine, same_fault}
+use Rattle.pepa_model.proofs.OneList.{faulty_not_fine, same_fault}
 use Rattle.pepa_steps.specs.States.{State}
 use Rattle.pepa_steps.specs.OpenStates.{OpenState, parts_in, apparent_in}
 use Rattle.pepa_steps.specs.StateVerdict.{HasFineRates, IsFinePart, PartFault, OfRates, OfLength, OfDerivation, HasRateFault, HasPartFault, IsWithoutFault, IsVerdict}

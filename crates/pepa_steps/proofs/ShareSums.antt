@@ -7,8 +7,7 @@ use Rattle.pepa_rates.specs.Share.{least_of, share_of}
 use Rattle.pepa_rates.specs.declared.rate.Rate.{Rate}
 use Rattle.pepa_rates.proofs.LowestTerms.{reduced-same, reduced-cross, reduced-positive}
 use Rattle.pepa_rates.proofs.Sums.{reduced-mul_left, reduced_along, sum_of-positive}
-use Rattle.pepa_rates.proofs.Shares.{fraction-with}
-use Rattle.pepa_steps.proofs.ShareForms.{share_as_one, share_num, share_den, fraction_share}
+use Rattle.pepa_rates.proofs.Shares.{fraction-with, share_as_one, share_num, share_den, fraction_share}
 use Rattle.pepa_rates.proofs.Lesser.{least-keeps}
 
 -- ---- a fraction times c/d

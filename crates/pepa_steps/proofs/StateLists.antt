@@ -4,7 +4,7 @@ use Rattle.std.specs.List.{AllByRecursion, AllZip}
 use Rattle.pepa_model.specs.Expression.{Expression, Chosen, Definition}
 use Rattle.pepa_model.specs.Derivation.{Among}
 use Rattle.pepa_model.specs.Opened.{Opened, OpenPrefix, OpenChoice, OpenConst, Opens}
-use Rattle.pepa_steps.proofs.LeafLemmas.{Among-map}
+use Rattle.pepa_model.proofs.TransitionLists.{Among-map}
 use Rattle.pepa_steps.specs.States.{State, AtLeaf, Cooperating, Hiding, has, StateTransition}
 use Rattle.pepa_steps.specs.OpenStates.{OpenState, LeafOpen, CoopOpen, HideOpen, OpensState, parts_in, hidden_move, closed, closed_state, moves_in}
 use Rattle.pepa_steps.specs.Rules.{StateDerivation, Under, Concludes, IsTransitionList}

@@ -27,7 +27,7 @@ pub record AddsRate (old new : List (ℕ × Rate)) (action : ℕ) (rate : Rate) 
   pub elsewhere : (other : ℕ) → other ≢ action → rate_in new other ≡ rate_in old other
   pub fine : IsFine (rate_in new action)
 
--- the sum of two apparent rates has a fault for an action, and none for a lesser one
+-- the rates by action have this fault for an action, and none for a lesser one
 pub record IsLeastFault (rate : ℕ → Apparent) (fault : RateFault) : Type 0 where
   pub action : ℕ
   pub faulty : HasFault (rate action) fault

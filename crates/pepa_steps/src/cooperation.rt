@@ -10,7 +10,9 @@ ghost use Rattle.pepa_steps.specs.PartAnswers.{AnswersBy, AreNodesInRange, coope
 use crate::parts::Part;
 use crate::sets::is_in;
 use crate::state_rates::{cooperation_rates, hiding_rates};
-use crate::step_lists::{hidden_steps, joint_count, push_joint, push_left, push_right};
+use crate::step_lists::{
+    hidden_steps, joint_count, partners_by_action, push_joint, push_left, push_right,
+};
 use crate::transitions::{StepFault, StepsEnd};
 use pepa_model::{Step, Term};
 use std::alloc::Global;
@@ -44,13 +46,22 @@ pub(crate) fn cooperation_part(
     let ours = left_part.steps.as_slice();
     let theirs = right_part.steps.as_slice();
     let alone = alone_count(types, ours) + alone_count(types, theirs);
-    let joint = joint_count(alloc, types, ours, theirs)?;
+    let partners = partners_by_action(alloc, types, theirs)?;
+    let joint = joint_count(types, ours, &partners);
     if alone + joint > MOST_STEPS {
         return Err(StepsEnd::Fault(StepFault::ListTooLong));
     }
     // These need both sides whole, so they come before what either side does alone, which takes its steps.
     let mut together = Vec::new(alloc);
-    push_joint(alloc, &mut together, &left_part, &right_part, types, set)?;
+    push_joint(
+        alloc,
+        &mut together,
+        &left_part,
+        &right_part,
+        &partners,
+        types,
+        set,
+    )?;
     let mut steps = Vec::new(alloc);
     push_left(alloc, &mut steps, left_part.steps, right, types, set)?;
     push_right(alloc, &mut steps, right_part.steps, left, types, set)?;

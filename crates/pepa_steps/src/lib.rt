@@ -13,7 +13,9 @@ mod parts;
 mod sets;
 mod state_rates;
 mod step_lists;
+mod terms;
 mod transitions;
 
 pub use apparent_rate::apparent;
+pub use terms::is_term_of;
 pub use transitions::{StepFault, StepsEnd, steps};

@@ -1,9 +1,9 @@
 //! The steps of cooperations and hidings, from those of their parts.
-ghost use Rattle.std.specs.Prelude.{◌≡◌, ◌<◌, ◌≤◌, [], ◌∷◌, ◌++◌, ◌^◌, map, length, OnOk, IfOk};
+ghost use Rattle.std.specs.Prelude.{◌≡◌, ◌<◌, ◌≤◌, List, [], ◌∷◌, ◌++◌, ◌^◌, map, length, OnOk, IfOk};
 ghost use Rattle.std.specs.List.Sorted.{IsStrictlyIncreasing};
 ghost use Rattle.pepa_rates.specs.Share.{SameKind};
 ghost use Rattle.pepa_model.specs.Terms.{CoopNode, term_of};
-ghost use Rattle.pepa_steps.specs.StepNodes.{step_nodes, alone, left_node, right_node, step_node, hidden_node, joint_node, joined_to, joint_nodes, AreRated};
+ghost use Rattle.pepa_steps.specs.StepNodes.{StepNode, step_nodes, alone, left_node, right_node, step_node, hidden_node, joint_node, joined_to, joint_nodes, AreRated};
 ghost use Rattle.pepa_steps.specs.JointSteps.{AddsJoint, IsJointStep, HasPartners, pair_count, places_from};
 ghost use Rattle.pepa_steps.specs.Partners.{AddsPartner, IsRatedIn, AreRatedFor};
 
@@ -103,8 +103,8 @@ fn right_step(alloc: Global, step: Step, left: &Term, set: u32) -> Result<Step, 
     })
 }
 
-/// The indices of the steps of each type in the set.
-fn partners_by_action(
+/// The indices of the right side's steps of each type in the set: the partners of the left side's steps.
+pub(crate) fn partners_by_action(
     alloc: Global,
     types: &[u32],
     steps: &[Step],
@@ -222,17 +222,17 @@ pub(crate) fn push_joint(
     list: &mut Vec<Step>,
     left: &Part,
     right: &Part,
+    partners: &BTreeMap<u32, Words32>,
     types: &[u32],
     set: u32,
 ) -> Result<(), JointEnd>
     requires ascends { IsStrictlyIncreasing types.now }
     requires left { AreRated types.now left.now.rates.entries (step_nodes left.now.steps.items) }
     requires right { AreRated types.now right.now.rates.entries (step_nodes right.now.steps.items) }
-    requires right_short { length right.now.steps.items ≤ 65535 }
+    requires partners { HasPartners types.now (step_nodes right.now.steps.items) partners.now.entries }
     ensures { AddsJoint (step_nodes list.old.items) (step_nodes list.new.items)
         (joint_nodes types.now set left.now.rates.entries right.now.rates.entries (step_nodes left.now.steps.items) (step_nodes right.now.steps.items)) result }
 {
-    let partners = partners_by_action(alloc, types, right.steps.as_slice())?;
     for step in left.steps.as_slice() {
         if is_in(types, step.action) {
             if let Some(indices) = partners.get(&step.action) {
@@ -243,19 +243,13 @@ pub(crate) fn push_joint(
     Ok(())
 }
 
-/// How many steps both sides of a cooperation take together.
-pub(crate) fn joint_count(
-    alloc: Global,
-    types: &[u32],
-    left: &[Step],
-    right: &[Step],
-) -> Result<u64, AllocError>
+/// How many steps both sides of a cooperation take together, where these are the partners of the left side's steps.
+pub(crate) fn joint_count(types: &[u32], left: &[Step], partners: &BTreeMap<u32, Words32>) -> u64
     requires ascends { IsStrictlyIncreasing types.now }
-    requires left { length left.now ≤ 65535 }
-    requires right { length right.now ≤ 65535 }
-    ensures { IfOk result (λ count. count ≡ pair_count types.now (step_nodes left.now) (step_nodes right.now)) }
+    requires short { length left.now ≤ 65535 }
+    requires few { (vs : List StepNode) × HasPartners types.now vs partners.now.entries × (length vs ≤ 65535) }
+    ensures { (vs : List StepNode) → HasPartners types.now vs partners.now.entries → result ≡ pair_count types.now (step_nodes left.now) vs }
 {
-    let partners = partners_by_action(alloc, types, right)?;
     let mut count: u64 = 0;
     for step in left {
         if is_in(types, step.action) {
@@ -264,7 +258,7 @@ pub(crate) fn joint_count(
             }
         }
     }
-    Ok(count)
+    count
 }
 
 /// The steps of a system that hides these types, from those of what it hides, which move into them.

@@ -54,7 +54,7 @@ pub enum Stop {
     ListTooLong,
     /// A passive rate is left, which no active one drives.
     PassiveLeft,
-    /// A sum of weights isn't in range.
+    /// The least common denominator of the rates, or the sum of their weights, isn't in range.
     WeightOverflow,
     /// The time isn't in range.
     TimeOverflow,

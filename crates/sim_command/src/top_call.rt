@@ -30,7 +30,7 @@ pub(crate) struct Ending {
 /// - 0: the answer is written on `out` in full;
 /// - 1: the memory ran out;
 /// - 2: the words give no command;
-/// - 3: the input has no model;
+/// - 3: the input is too long, or has no model;
 /// - 4: a read failed;
 /// - 5: a write of the answer failed;
 /// - 6: the verdict on the model names a stop.

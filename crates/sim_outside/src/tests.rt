@@ -124,6 +124,15 @@ fn a_full_writer_fails(rt: HostRuntime) {
 }
 
 #[test]
+fn each_write_is_flushed(rt: HostRuntime) {
+    let mut sink = StdSink::make(Unflushed);
+    assert_eq!(rt;
+        (write_all(&mut sink, TEXT), sink.faults()),
+        (Err(Failed), 1)
+    );
+}
+
+#[test]
 fn appends_decimals(rt: HostRuntime) -> Result<(), Fail> {
     for (value, text) in [
         (0, "x0"),
@@ -156,5 +165,19 @@ impl Write for Interrupted {
 
     fn flush(&mut self) -> io::Result<()> {
         Ok(())
+    }
+}
+
+// It takes each byte, and no flush succeeds.
+#[derive(Drop)]
+struct Unflushed;
+
+impl Write for Unflushed {
+    fn write(&mut self, buf: &[u8]) -> io::Result<usize> {
+        Ok(buf.len())
+    }
+
+    fn flush(&mut self) -> io::Result<()> {
+        Err(io::ErrorKind::Other.into())
     }
 }

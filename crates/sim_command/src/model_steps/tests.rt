@@ -1,7 +1,8 @@
 use crate::first_term::first_term;
 use crate::model_reading::read_model;
+use pepa_model::Term;
 use pepa_rates::{Frac, Rate, RateFault};
-use pepa_steps::apparent;
+use pepa_steps::{apparent, is_term_of};
 use std::test::Fail;
 
 #[test]
@@ -60,4 +61,17 @@ fn whole_rate(rate: Rate) -> u64 {
         Rate::Passive(Frac { num, den: 1 }) => num,
         _ => 0,
     }
+}
+
+#[test]
+fn terms_of_a_model(rt: HostRuntime) -> Result<(), Fail> {
+    // The leaves 0 and 1, and the sets 0 and 1.
+    let model = read_model(rt.alloc(), b"P = (a,1).P; Q = (b,1).Q; (P <a> Q)/{b}")?;
+    let first = first_term(rt.alloc(), &model)?;
+    assert!(rt; is_term_of(&model, &first));
+    for (leaf, set, want) in [(0, 0, true), (1, 1, true), (2, 0, false), (0, 2, false)] {
+        let hidden = Term::Hide(Box::new(rt.alloc(), Term::Leaf(leaf))?, set);
+        assert_eq!(rt; is_term_of(&model, &hidden), want);
+    }
+    Ok(())
 }

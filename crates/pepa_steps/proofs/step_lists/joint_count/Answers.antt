@@ -1,53 +1,58 @@
 use Rattle.std.proofs.Common.{◌≡◌, ℕ, ◌+◌, ◌*◌, ◌≤◌, List, length, sym, ap, ◌∙◌, arith, refl}
-use Rattle.std.proofs.lemmas.List.{take_all, length-map}
+use Rattle.std.proofs.lemmas.List.{take_all}
 use Rattle.pepa_model.specs.declared.term.Step.{Step}
-use Rattle.pepa_steps.specs.StepNodes.{step_node, step_nodes}
+use Rattle.pepa_steps.specs.StepNodes.{StepNode, step_node, step_nodes}
 use Rattle.pepa_steps.specs.JointSteps.{places_from, pair_count}
 use Rattle.pepa_steps.proofs.TakenSteps.{nodes_more, counts_pairs, same_pairs, no_more_than, found_places, no_places}
 use Rattle.pepa_steps.proofs.step_lists.joint_count.Goals as goal
 use Rattle.pepa_steps.proofs.step_lists.joint_count.Goals.{then-is_in+in-Some, then-is_in+in_default, else-is_in}
 
 -- no more indices than steps
-few : (n action : ℕ) (indices : List ℕ) (steps : List Step) → n ≡ length indices → indices ≡ places_from 0 action (step_nodes steps) → length steps ≤ 65535 → n ≤ 65535
-few n action indices steps e is short =
+few : (n action : ℕ) (indices : List ℕ) (vs : List StepNode) → n ≡ length indices → indices ≡ places_from 0 action vs → length vs ≤ 65535 → n ≤ 65535
+few n action indices vs e is short =
     let as_many = e ∙ ap length is in
-    omega (arith, as_many, short, no_more_than action (step_nodes steps), length-map steps step_node)
+    omega (arith, as_many, short, no_more_than action vs)
 
 pub loop-step-init : goal.loop-step-init
-loop-step-init c = (refl, omega arith)
+loop-step-init c = (λ vs h. refl, omega arith)
 
 pub overflow_add-count : goal.overflow_add-count
 overflow_add-count c =
-    let places = found_places c.args.types.now (step_nodes c.args.right.now) _ _ _ c.in_ok-partners.ensures (sym c.if-is_in.ensures) c.in-Some.ensures.value in
-    let bound : c.len.result ≤ 65535 = few _ _ _ c.args.right.now c.len.ensures places c.requires.right in
+    let known = c.requires.few in
+    let places = found_places c.args.types.now known.0 _ _ _ known.1 (sym c.if-is_in.ensures) c.in-Some.ensures.value in
+    let bound : c.len.result ≤ 65535 = few _ _ _ known.0 c.len.ensures places known.2 in
     let before : c.loop-step.count ≤ c.loop-step.step-index * 65535 = c.loop-step.invariant.1 in
-    omega (arith, bound, before)
+    omega (arith, bound, before, c.requires.short, c.loop-step-test.true)
 
 pub loop-step-preserved : goal.loop-step-preserved
 loop-step-preserved c =
+    let known = c.requires.few in
     let grows = nodes_more c.args.left.now c.loop-step.step-index c.step-item.result c.loop-step-test.true c.step-item.is in
     let before : c.loop-step.count ≤ c.loop-step.step-index * 65535 = c.loop-step.invariant.1 in
     elim c.if-is_in.branch [
       | then-is_in+in-Some w ↦
           let has_it = sym w.if-is_in.ensures in
-          let places = found_places c.args.types.now (step_nodes c.args.right.now) _ _ _ c.in_ok-partners.ensures has_it w.in-Some.ensures.value in
-          let bound : w.len.result ≤ 65535 = few _ _ _ c.args.right.now w.len.ensures places c.requires.right in (
-            w.count-is ∙ counts_pairs c.args.types.now _ _ (step_node c.step-item.result) grows _ _ _ has_it c.loop-step.invariant.0 (w.len.ensures ∙ ap length places),
+          let own = found_places c.args.types.now known.0 _ _ _ known.1 has_it w.in-Some.ensures.value in
+          let bound : w.len.result ≤ 65535 = few _ _ _ known.0 w.len.ensures own known.2 in (
+            (λ vs h.
+                let places = found_places c.args.types.now vs _ _ _ h has_it w.in-Some.ensures.value in
+                w.count-is ∙ counts_pairs c.args.types.now _ _ (step_node c.step-item.result) grows vs _ _ has_it (c.loop-step.invariant.0 vs h) (w.len.ensures ∙ ap length places)),
             omega (arith, bound, before, w.count-is),
           )
       | then-is_in+in_default w ↦
           let has_it = sym w.if-is_in.ensures in
-          let places = no_places c.args.types.now (step_nodes c.args.right.now) _ _ c.in_ok-partners.ensures has_it w.in_default.ensures.value in
           let same : c.loop-step.count ≡ c.loop-step.count + 0 = omega arith in (
-            w.count-is ∙ same ∙ counts_pairs c.args.types.now _ _ (step_node c.step-item.result) grows _ _ 0 has_it c.loop-step.invariant.0 (ap length places),
+            (λ vs h.
+                let places = no_places c.args.types.now vs _ _ h has_it w.in_default.ensures.value in
+                w.count-is ∙ same ∙ counts_pairs c.args.types.now _ _ (step_node c.step-item.result) grows vs _ 0 has_it (c.loop-step.invariant.0 vs h) (ap length places)),
             omega (arith, before, w.count-is),
           )
       | else-is_in w ↦ (
-        w.count-is ∙ same_pairs c.args.types.now _ _ (step_node c.step-item.result) grows _ _ (sym w.if-is_in.ensures) c.loop-step.invariant.0,
+        (λ vs h. w.count-is ∙ same_pairs c.args.types.now _ _ (step_node c.step-item.result) grows vs _ (sym w.if-is_in.ensures) (c.loop-step.invariant.0 vs h)),
         omega (arith, before, w.count-is),
       )
     ]
 
 pub returns : goal.returns
-returns c =
-    c.loop-step.invariant.0 ∙ ap (λ (steps : List Step). pair_count c.args.types.now (step_nodes steps) (step_nodes c.args.right.now)) (take_all _ c.args.left.now c.loop-step-test.false)
+returns c = λ vs h.
+    c.loop-step.invariant.0 vs h ∙ ap (λ (steps : List Step). pair_count c.args.types.now (step_nodes steps) vs) (take_all _ c.args.left.now c.loop-step-test.false)
