@@ -35,7 +35,7 @@ refused 'an unknown word' 2 usage "$model" step
 refused 'a word in capitals' 2 usage "$model" STEPS
 refused 'an empty word' 2 usage "$model" ''
 refused 'an option' 2 usage "$model" --help
-refused 'both commands' 2 usage "$model" check steps
+refused 'two commands' 2 usage "$model" check steps
 refused 'check and a file' 2 usage "$model" check "$model"
 
 # 2^20 bytes are read, and one more is not.
@@ -71,6 +71,29 @@ printf 'ok constants 501 actions 1 probes 0 leaves 2\n' >"$work/counts"
 bin/pepaprobe check <"$work/chain" >"$work/out" 2>"$work/err"
 ended=$?
 told 'a long chain of constants' 0 "$work/counts" "$work/nothing"
+
+# What either side does: 340,000 hidings stand in one another on each, and P follows P.
+side() {
+    printf 'P'
+    for _ in {1..500}; do
+        printf '%s' "$hidden"
+    done
+}
+side >"$work/side"
+for _ in 1 2; do
+    printf 'a 1 '
+    cat "$work/side"
+    printf ' || '
+    cat "$work/side"
+    printf '\n'
+done >"$work/steps"
+if [ "$(ulimit -H -s)" = unlimited ]; then
+    bin/pepaprobe steps <"$work/chain" >"$work/out" 2>"$work/err"
+    ended=$?
+    told 'the steps of a long chain of constants' 0 "$work/steps" "$work/nothing"
+else
+    skipped 'the steps of a long chain of constants: this system limits the stack'
+fi
 
 # The text comes through a pipe, a few bytes at a time.
 while IFS= read -r -n 1 byte || [ -n "$byte" ]; do
