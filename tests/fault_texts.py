@@ -33,7 +33,7 @@ PIECES = [
 ]
 BLANKS = [" ", "\n", "\t", "\r\n", "  ", " // c )\n", "//\n", "/* ( */", "/**/", "/***/", "/* \xff\n\n */", " /* // */ ",
           "/*/*/"]
-LIMITS = ["rates", "pieces", "constants", "system leaves", "pieces", "activities", "actions", "pieces", "sets", "chain"]
+LIMITS = ["rates", "pieces", "constants", "system leaves", "nodes", "activities", "actions", "pieces", "sets", "chain"]
 PASSIVE = ("p", "c")
 
 
@@ -173,6 +173,11 @@ def at_limit(chance: random.Random, kind: str, past: int, lines, system):
         lines = lines[:line] + [padded(chance, lines[line], 2047 + past)] + lines[line + 1:]
     elif kind == "system leaves":
         more, system = doubled(chance.choice([254 + past, 254 + past, 10**20]), "P", chance.choice(["||", "< a >"]))
+    elif kind == "nodes":
+        # Two constants, a cooperation, and the rest hidings; or each second one of two thousands of them.
+        count = 1020 + past if chance.random() < 0.5 else chance.choice([1, 340, 1021]) + chance.randrange(3)
+        more = [f"N{i} = {'P' if i == 0 else f'N{i - 1}'} {'/ { }' * (count // 4 + (count % 4 if i == 0 else 0))} ;" for i in range(4)]
+        system = chance.choice(["P || N3", "N3 || P", "N3 < a > ( P )"]).split()
     elif kind == "activities":
         more, system = doubled(chance.choice([2**14, 2**15, 2**15, 2**70]), "U", "+")
         more += [f"U = ( a , {chance.choice('1T')} ) . U ;"] + ["V = U ;"] * chance.randrange(2)

@@ -21,7 +21,7 @@ MOST_BYTES = 2**20
 MOST_TOKENS = 2048
 MOST_LINES = 1024
 MOST_IN_RATE = 2**42 - 1
-LIMITS = {"actions": 1024, "sets": 1024, "leaves": 65535, "activities": 65535, "system leaves": 255}
+LIMITS = {"actions": 1024, "sets": 1024, "leaves": 65535, "activities": 65535, "system leaves": 255, "system nodes": 1023}
 LEXEME = re.compile(rb"(?P<blank>[\t\n\r ]+|//[^\n]*)|(?P<comment>/\*)|(?P<name>[A-Za-z][A-Za-z0-9_]*)"
                     rb"|(?P<number>[0-9]+(?:\.[0-9]*)?)|(?P<sign><=|>=|==|!=|&&|\|\||::|[=;(),.+\-*/<>!|{}\[\]:?])")
 OPERATORS = {"+": operator.add, "-": operator.sub, "*": operator.mul, "/": operator.truediv}
@@ -253,7 +253,7 @@ class Model:
         self.check_rates()
         self.compound = {name for name in self.bodies if self.is_compound(name)}
         self.check_structure()
-        self.counts, self.activities_of = {}, {}
+        self.counts, self.nodes, self.activities_of = {}, {}, {}
         self.check_limits()
         self.check_mixed()
 
@@ -361,7 +361,7 @@ class Model:
         self.system_leaves = self.leaf_count(self.system)
         counts = {"actions": len(self.actions), "sets": len({frozenset(word.text for word in words) for words in self.sets}),
                   "leaves": len(self.leaves), "activities": sum(self.activity_count(leaf) for leaf in self.leaves),
-                  "system leaves": self.system_leaves}
+                  "system leaves": self.system_leaves, "system nodes": self.node_count(self.system)}
         for cause, most in LIMITS.items():
             refuse("too many", [first_place(self.system)] if counts[cause] > most else [], cause)
 
@@ -409,6 +409,18 @@ class Model:
         if process[2] not in self.counts:
             self.counts[process[2]] = self.leaf_count(self.bodies[process[2]])
         return self.counts[process[2]]
+
+    def node_count(self, process) -> int:
+        """Its leaves, cooperations and hidings, with the right side of each compound constant in its place."""
+        if process[0] == "coop":
+            return 1 + self.node_count(process[1]) + self.node_count(process[2])
+        if process[0] == "hide":
+            return 1 + self.node_count(process[1])
+        if process[0] != "constant" or process[2] not in self.compound:
+            return 1
+        if process[2] not in self.nodes:
+            self.nodes[process[2]] = self.node_count(self.bodies[process[2]])
+        return self.nodes[process[2]]
 
     def check_mixed(self) -> None:
         for leaf in self.leaves:

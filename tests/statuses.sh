@@ -16,6 +16,7 @@ wanted_line usage 'usage'
 wanted_line empty 'model 1:1 expected'
 wanted_line spaces 'model 1:1048577 expected'
 wanted_line too_long 'model too long'
+wanted_line too_many 'model 501:1 too many'
 wanted_line read_fault 'read fault'
 wanted_line write_fault 'write fault'
 
@@ -58,7 +59,8 @@ bin/pepaprobe steps <"$work/long_model" >"$work/out" 2>"$work/err"
 ended=$?
 told 'a model of 2^20 bytes' 0 "${model%.pepa}.steps" "$work/nothing"
 
-# A long chain of constants: each of 500 stands for the one before it, with the empty set hidden 680 times.
+# A long chain of constants: each of 500 stands for the one before it, with the empty set hidden 680 times. These are 340,000
+# hidings on each side.
 hidden=$(printf '/{}%.0s' {1..680})
 {
     printf 'P = (a, 1).P; A0 = P%s;\n' "$hidden"
@@ -67,33 +69,8 @@ hidden=$(printf '/{}%.0s' {1..680})
     done
     printf 'A499 || A499\n'
 } >"$work/chain"
-printf 'ok constants 501 actions 1 probes 0 leaves 2\n' >"$work/counts"
-bin/pepaprobe check <"$work/chain" >"$work/out" 2>"$work/err"
-ended=$?
-told 'a long chain of constants' 0 "$work/counts" "$work/nothing"
-
-# What either side does: 340,000 hidings stand in one another on each, and P follows P.
-side() {
-    printf 'P'
-    for _ in {1..500}; do
-        printf '%s' "$hidden"
-    done
-}
-side >"$work/side"
-for _ in 1 2; do
-    printf 'a 1 '
-    cat "$work/side"
-    printf ' || '
-    cat "$work/side"
-    printf '\n'
-done >"$work/steps"
-if [ "$(ulimit -H -s)" = unlimited ]; then
-    bin/pepaprobe steps <"$work/chain" >"$work/out" 2>"$work/err"
-    ended=$?
-    told 'the steps of a long chain of constants' 0 "$work/steps" "$work/nothing"
-else
-    skipped 'the steps of a long chain of constants: this system limits the stack'
-fi
+refused 'a long chain of constants' 3 too_many "$work/chain" steps
+refused 'check: a long chain of constants' 3 too_many "$work/chain" check
 
 # The text comes through a pipe, a few bytes at a time.
 while IFS= read -r -n 1 byte || [ -n "$byte" ]; do

@@ -6,7 +6,7 @@ use Rattle.std.proofs.lemmas.Bool.{false≢true}
 use Rattle.std.proofs.lemmas.Option.{slice_get_within, slice_get-get_or, slice_get-map}
 use Rattle.pepa_model.specs.Expression.{Expression, Const, Definition}
 use Rattle.pepa_model.specs.Opened.{Opened, Opens, moves}
-use Rattle.pepa_model.specs.Expanded.{Expanded, Expands, leaves_in}
+use Rattle.pepa_model.specs.Expanded.{Expanded, Expands}
 use Rattle.pepa_model.specs.PepaModel.{IsMixedAt, AreUnmixed}
 use Rattle.pepa_model.specs.declared.term.Activity.{Activity}
 use Rattle.pepa_resolver.specs.Named.{Named}
@@ -14,7 +14,10 @@ use Rattle.pepa_checks.specs.declared.summand.Performed.{Performed}
 use Rattle.pepa_checks.specs.Outline.{Outline}
 use Rattle.pepa_checks.specs.Activities.{HasMixed, HasNoMixed, IsMixedLeaf, IsFirstMixed}
 use Rattle.pepa_checks.specs.Summands.{IsPerformedBy, ArePerformed}
-use Rattle.pepa_checks.specs.Limits.{HasManyActivities, HasManyLeaves}
+use Rattle.pepa_checks.specs.declared.system_size.Measure.{Measure}
+use Rattle.pepa_checks.specs.declared.system_size.Measure.TheVariants.{Leaves, Nodes}
+use Rattle.pepa_checks.specs.SystemSizes.{measured, most_of}
+use Rattle.pepa_checks.specs.Limits.{HasManyActivities, HasManyLeaves, HasManyNodes}
 use Rattle.pepa_checks.specs.ActivityLists.{OpensIntoMany}
 use Rattle.pepa_checks.specs.MixedLists.{activities, IsFirstMixedOf, HaveNoMixed, IsFirstMixedIn}
 use Rattle.pepa_checks.proofs.SoundLists.{sum_pointwise, zip_length, zip_at, same_count}
@@ -57,17 +60,23 @@ many_activities outline each many =
     let all = opened_leaves outline.definitions outline.leaves each in
     (all.0, all.1, many all.0 all.1)
 
--- ---- how many leaves the system has
+-- ---- how large the system is
 
--- the answer tells of each tree that the system expands into whether it has many leaves
-abbrev pub TellsLeaves : Outline → Bool → Type 0
-TellsLeaves outline many = (tree : Expanded) → Expands outline.definitions outline.system tree → (IsTrue many ↔ (255 < leaves_in tree))
+-- the answer tells of each tree that the system expands into whether it is too large
+abbrev pub TellsSize : Measure → Outline → Bool → Type 0
+TellsSize measure outline large = (tree : Expanded) → Expands outline.definitions outline.system tree → (IsTrue large ↔ (most_of measure < measured measure tree))
 
-pub many_leaves : (outline : Outline) (many : Bool) → TellsLeaves outline many → (tree : Expanded) → Expands outline.definitions outline.system tree → IsTrue many → HasManyLeaves outline
-many_leaves outline many tells tree expands is = (tree, expands, (tells tree expands).0 is)
+pub many_leaves : (outline : Outline) (large : Bool) → TellsSize Leaves outline large → (tree : Expanded) → Expands outline.definitions outline.system tree → IsTrue large → HasManyLeaves outline
+many_leaves outline large tells tree expands is = (tree, expands, (tells tree expands).0 is)
 
-pub few_leaves : (outline : Outline) (many : Bool) → TellsLeaves outline many → many ≡ false → ¬ HasManyLeaves outline
-few_leaves outline many tells is (tree, expands, more) = false≢true (sym is ∙ (tells tree expands).1 more)
+pub few_leaves : (outline : Outline) (large : Bool) → TellsSize Leaves outline large → large ≡ false → ¬ HasManyLeaves outline
+few_leaves outline large tells is (tree, expands, more) = false≢true (sym is ∙ (tells tree expands).1 more)
+
+pub many_nodes : (outline : Outline) (large : Bool) → TellsSize Nodes outline large → (tree : Expanded) → Expands outline.definitions outline.system tree → IsTrue large → HasManyNodes outline
+many_nodes outline large tells tree expands is = (tree, expands, (tells tree expands).0 is)
+
+pub few_nodes : (outline : Outline) (large : Bool) → TellsSize Nodes outline large → large ≡ false → ¬ HasManyNodes outline
+few_nodes outline large tells is (tree, expands, more) = false≢true (sym is ∙ (tells tree expands).1 more)
 
 -- ---- the first mixed activity
 

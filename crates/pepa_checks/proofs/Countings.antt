@@ -11,6 +11,7 @@ use Rattle.pepa_checks.specs.declared.leaves.Leaves.{Leaves}
 use Rattle.pepa_checks.specs.declared.counting.Counted.{Counted}
 use Rattle.pepa_checks.specs.declared.limit_end.LimitEnd.{LimitEnd}
 use Rattle.pepa_checks.specs.declared.limit_end.LimitEnd.TheVariants.{TooMany, Memory}
+use Rattle.pepa_checks.specs.declared.system_size.Measure.TheVariants as measure
 use Rattle.pepa_checks.specs.Outline.{Outline, outline_of, sets_of}
 use Rattle.pepa_checks.specs.Activities.{written_leaves}
 use Rattle.pepa_checks.specs.Limits.{PassesLimit}
@@ -21,7 +22,7 @@ use Rattle.pepa_checks.specs.ActivityLists.{LeafChoices, IsActivitiesEnd}
 use Rattle.pepa_checks.specs.CountedFiles.{IsCounted, Counts}
 use Rattle.pepa_checks.proofs.Openings.{leaf_opens}
 use Rattle.pepa_checks.proofs.Expansions.{system_expands}
-use Rattle.pepa_checks.proofs.Counted.{EachOpens, TellsLeaves, few_activities, many_activities, many_leaves, few_leaves}
+use Rattle.pepa_checks.proofs.Counted.{EachOpens, TellsSize, few_activities, many_activities, many_leaves, few_leaves, many_nodes, few_nodes}
 
 -- as many keys as entries
 pub few_keys : {V : Type 0} (entries : List (List ℕ × V)) (limit len : ℕ) → len ≡ length entries → len ≤ limit → length (keys_of entries) ≤ limit
@@ -56,13 +57,18 @@ module _ (actions : List (List ℕ)) (compounds : List Bool) (bodies : List Name
   performed_end found are TooMany many = inr (inr (inr (inl (many_activities outline each_opens many))))
   performed_end found are Memory h = tt
 
-  pub many_system : (many : Bool) → TellsLeaves outline many → IsTrue many → PassesLimit actions outline
-  many_system many tells is =
+  pub many_leaves_in : (large : Bool) → TellsSize measure.Leaves outline large → IsTrue large → PassesLimit actions outline
+  many_leaves_in large tells is =
       let tree = system_expands (sets_of bodies system) compounds bodies system compound_order built compounds_first in
-      inr (inr (inr (inr (many_leaves outline many tells tree.0 tree.1 is))))
+      inr (inr (inr (inr (inl (many_leaves outline large tells tree.0 tree.1 is)))))
 
-  pub counts : (counted : Counted) (many : Bool) → length actions ≤ 1025 → keys counted.sets ≡ sets_of bodies system → length (keys counted.sets) ≤ 1024 → AreLeaves outline compounds bodies written counted.leaves → ArePerformed outline bodies written counted.performed → sum_by length counted.performed ≤ 65535 → TellsLeaves outline many → many ≡ false → IsCounted actions compounds bodies system counted
-  counts counted many few_actions sets few_sets leaves performed few tells is = record {
+  pub many_nodes_in : (large : Bool) → TellsSize measure.Nodes outline large → IsTrue large → PassesLimit actions outline
+  many_nodes_in large tells is =
+      let tree = system_expands (sets_of bodies system) compounds bodies system compound_order built compounds_first in
+      inr (inr (inr (inr (inr (many_nodes outline large tells tree.0 tree.1 is)))))
+
+  pub counts : (counted : Counted) (many large : Bool) → length actions ≤ 1025 → keys counted.sets ≡ sets_of bodies system → length (keys counted.sets) ≤ 1024 → AreLeaves outline compounds bodies written counted.leaves → ArePerformed outline bodies written counted.performed → sum_by length counted.performed ≤ 65535 → TellsSize measure.Leaves outline many → many ≡ false → TellsSize measure.Nodes outline large → large ≡ false → IsCounted actions compounds bodies system counted
+  counts counted many large few_actions sets few_sets leaves performed few tells is tells_too is_too = record {
     within = λ passed. apart passed;
     sets_are = sets;
     leaves_are = leaves.expressions_are;
@@ -74,4 +80,5 @@ module _ (actions : List (List ℕ)) (compounds : List Bool) (bodies : List Name
       apart (inr (inl lt)) = let e : length (keys counted.sets) ≡ length (sets_of bodies system) = ap (λ (l : List (List ℕ)). length l) sets in omega arith
       apart (inr (inr (inl lt))) = let most = leaves.few in omega arith
       apart (inr (inr (inr (inl h)))) = few_activities outline bodies written counted.performed performed few h
-      apart (inr (inr (inr (inr h)))) = few_leaves outline many tells is h
+      apart (inr (inr (inr (inr (inl h))))) = few_leaves outline many tells is h
+      apart (inr (inr (inr (inr (inr h))))) = few_nodes outline large tells_too is_too h

@@ -13,9 +13,9 @@ use Rattle.pepa_reader.specs.Trees.{RateNode, ProcessLineNode, FileNode, file_no
 use Rattle.pepa_reader.specs.FileAnswers.{IsFileTree}
 use Rattle.pepa_model.specs.Expression.{Expression, Shape, IsCompound}
 use Rattle.pepa_model.specs.Opened.{Opened, Opens, moves, height}
-use Rattle.pepa_model.specs.Expanded.{leaves_in}
+use Rattle.pepa_model.specs.Expanded.{leaves_in, nodes_in}
 use Rattle.pepa_model.specs.Spelling.{IsWrittenRate, HasWrittenShape}
-use Rattle.pepa_model.specs.PepaModel.{PepaModel, IsModel, IsSpelled, IsSoundLeaf, IsCompoundBody, HasTree, StandsForTransition, HasFewLeaves, IsNumbered, IsWithinLimits, IsActionSet, AreUnmixed, IsMixedAt}
+use Rattle.pepa_model.specs.PepaModel.{PepaModel, IsModel, IsSpelled, IsSoundLeaf, IsCompoundBody, HasTree, StandsForTransition, HasSmallTree, IsNumbered, IsWithinLimits, IsActionSet, AreUnmixed, IsMixedAt}
 use Rattle.pepa_model.specs.declared.term.Activity.{Activity}
 use Rattle.pepa_resolver.specs.Parts.{name_at, process_ats, processes_of}
 use Rattle.pepa_resolver.specs.Outcomes.{Good}
@@ -222,12 +222,13 @@ module _ (input : List ℕ) (tokens : List Token) (tree : FileTree) (are : IsTok
         expanded = subst (HasTree m) (sym by.is) (record { tree = tree.0; expands = tree.1; shallow = tree.2 });
       })
 
-  few_leaves : HasFewLeaves m
-  few_leaves =
+  small_tree : HasSmallTree m
+  small_tree =
       let tree = system_expands sets compounds bodies sound.system compound_order built compounds_first in
       record {
         expanded = record { tree = tree.0; expands = tree.1; shallow = tree.2 };
-        few = at_most (leaves_in tree.0) 255 (λ lt. within (inr (inr (inr (inr (tree.0, tree.1, lt))))));
+        leaves = at_most (leaves_in tree.0) 255 (λ lt. within (inr (inr (inr (inr (inl (tree.0, tree.1, lt)))))));
+        nodes = at_most (nodes_in tree.0) 1023 (λ lt. within (inr (inr (inr (inr (inr (tree.0, tree.1, lt)))))));
       }
 
   numbered : IsNumbered m
@@ -268,7 +269,7 @@ module _ (input : List ℕ) (tokens : List Token) (tree : FileTree) (are : IsTok
     sets = action_set;
     compounds = compound_body;
     system = system_sound m.constants m.actions activities compounds bodies sound.system sound.one_each (below_all sound.system system_range);
-    few_leaves = few_leaves;
+    small_tree = small_tree;
     numbered = numbered;
     spelled = spelled;
     limits = limits;

@@ -2,7 +2,7 @@
 use Rattle.std.proofs.Common.{◌≡◌, ℕ, zero, suc, ◌+◌, ◌<◌, List, [], ◌∷◌, ◌++◌, map, flat_map, length, Some, slice_get, inl, inr, refl, sym, ap, ◌∙◌, subst, arith}
 use Rattle.std.specs.List.{Contains, AllByRecursion, AllZip}
 use Rattle.std.proofs.lemmas.List.Elements.{Contains-append_left, Contains-append_right, Contains-append_cases}
-use Rattle.pepa_model.specs.Expression.{Expression, Const, Prefixed, Chosen, WordTerm, LeafOf, Shape, LeafShape, ConstShape, CoopShape, HideShape, Definition, Sequentially, Compoundly}
+use Rattle.pepa_model.specs.Expression.{Expression, Const, Prefixed, Chosen, Shape, LeafShape, ConstShape, CoopShape, HideShape, Definition, Sequentially, Compoundly}
 use Rattle.pepa_model.specs.Derivation.{Transition}
 use Rattle.pepa_model.specs.Opened.{Opened, OpenPrefix, OpenChoice, OpenConst, Opens, moves}
 use Rattle.pepa_model.specs.Leaves.{same_expression, followers, components, components_defined, sequential_constants, leaves_of}
@@ -10,7 +10,7 @@ use Rattle.pepa_model.specs.PepaModel.{PepaModel, StandsForTransition, IsNamed}
 use Rattle.pepa_model.specs.declared.term.Activity.{Activity}
 use Rattle.pepa_resolver.proofs.Findings.{no_element, contains_here, contains_there, contains_cases}
 use Rattle.pepa_resolver.proofs.Bodies.{contains_from_get}
-use Rattle.pepa_checks.specs.Activities.{target_number, activity_in, activities_in}
+use Rattle.pepa_checks.specs.Activities.{leaf_number, activity_in, activities_in}
 use Rattle.pepa_checks.proofs.LeafProcesses.{once_from}
 use Rattle.pepa_model.proofs.DistinctLeaves.{same_expression-Decides}
 use Rattle.pepa_checks.proofs.LeafNumbers.{once_keeps, leaf_stands}
@@ -115,7 +115,7 @@ module _ (definitions : List Definition) (system : Shape) where
   record LeadsToLeaf (t : Transition) : Type 0 where
     no_signals : t.signals ≡ 0
     next : Expression
-    target : t.target ≡ LeafOf next
+    target : t.target ≡ next
     is_leaf : Contains leaves next
 
   moves_append : (P : Transition → Type 0) (ts us : List Transition) → AllByRecursion P ts → AllByRecursion P us → AllByRecursion P (ts ++ us)
@@ -140,7 +140,7 @@ module _ (definitions : List Definition) (system : Shape) where
     signals = leads.no_signals;
     rate = refl;
     next = leads.next;
-    numbered = ap (λ (w : WordTerm). slice_get leaves (target_number leaves w)) leads.target ∙ leaf_stands leaves leads.next leads.is_leaf;
+    numbered = ap (λ (x : Expression). slice_get leaves (leaf_number leaves x)) leads.target ∙ leaf_stands leaves leads.next leads.is_leaf;
     target = leads.target;
   }
 

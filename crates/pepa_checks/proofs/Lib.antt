@@ -21,7 +21,7 @@ pub mod IsModels
 pub mod Indices
 pub mod OneModel
 pub mod ActivityKinds
-pub mod LeafCounting
+pub mod SizeCounting
 pub mod ListsMaking
 pub mod ProcessKinds
 pub mod Performances

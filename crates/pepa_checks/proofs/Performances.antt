@@ -9,7 +9,7 @@ use Rattle.std.proofs.lemmas.List.Elements.{Contains-append_left, Contains-appen
 use Rattle.std.proofs.lemmas.Option.{slice_get_within, slice_get-get_or, get_or_from_slice_get}
 use Rattle.pepa_rates.specs.declared.rate.Rate.{Rate}
 use Rattle.pepa_model.specs.declared.term.Activity.{Activity}
-use Rattle.pepa_model.specs.Expression.{Expression, Const, Prefixed, Chosen, Sequentially, Defines, LeafOf}
+use Rattle.pepa_model.specs.Expression.{Expression, Const, Prefixed, Chosen, Sequentially, Defines}
 use Rattle.pepa_model.specs.Opened.{Opened, OpenPrefix, OpenChoice, OpenConst, Opens, moves}
 use Rattle.pepa_resolver.specs.Named.{Named, NamedConstant, NamedPrefix, NamedChoice, NamedCoop, NamedHide, unguarded}
 use Rattle.pepa_resolver.specs.Structure.{has_system}
@@ -20,7 +20,7 @@ use Rattle.pepa_checks.specs.Outline.{Outline, expression_in, definition_in, def
 use Rattle.pepa_checks.specs.Activities.{leaf_number, activity_in, activities_in, sites, IsFirstWritten}
 use Rattle.pepa_checks.specs.Summands.{summands_in, leaf_summands, IsPerformed, IsPerformedBy}
 use Rattle.pepa_checks.specs.ActivityLists.{LeafChoices, outline, written, constant_list, performed_by, performed_in}
-use Rattle.pepa_checks.proofs.LeafCounting.{defined_by}
+use Rattle.pepa_checks.proofs.SizeCounting.{defined_by}
 use Rattle.pepa_checks.proofs.ProcessKinds.{plain_written, plain_body}
 
 abbrev act : Performed → Activity
@@ -63,7 +63,7 @@ chooser_other bodies (NamedHide inner set) other = absurd (other 0 refl)
 
 -- an activity of a prefix
 same_activity : (leaves : List Expression) (a b : ℕ) (r s : Rate) (x y : Expression) → Prefixed a r x ≡ Prefixed b s y
-    → activity_of a r (leaf_number leaves x) ≡ activity_in leaves (record { action = b; signals = 0; rate = s; target = LeafOf y })
+    → activity_of a r (leaf_number leaves x) ≡ activity_in leaves (record { action = b; signals = 0; rate = s; target = y })
 same_activity leaves a b r s x y is =
     let e1 : a ≡ b = cc in
     let e2 : r ≡ s = cc in

@@ -1,19 +1,17 @@
 -- The model of a file has names that are spelled as those of a text, and rates that can be written.
-use Rattle.std.proofs.Common.{◌≡◌, ℕ, zero, suc, ◌<◌, Bool, true, false, cond, if◌then◌else◌, List, [], ◌∷◌, ◌++◌, map, flat_map, Some, slice_get, codes, inl, inr, refl, sym, ap, ◌∙◌, subst, arith}
-use Rattle.std.specs.List.{Contains}
+use Rattle.std.proofs.Common.{◌≡◌, ℕ, zero, suc, ◌<◌, Bool, true, false, if◌then◌else◌, List, [], ◌∷◌, map, flat_map, Some, slice_get, codes, inl, inr, sym, ◌∙◌, subst, arith}
 use Rattle.std.proofs.lemmas.Option.{same_Some}
-use Rattle.pepa_rates.specs.declared.rate.Rate.{Rate}
 use Rattle.pepa_lexer.specs.TokenLists.{IsTokens}
 use Rattle.pepa_lexer.specs.declared.kinds.Token.{Token}
 use Rattle.pepa_reader.specs.Grammar.{File, file_spelled}
 use Rattle.pepa_reader.specs.Terminals.{terminals}
-use Rattle.pepa_reader.specs.Trees.{RateNode, ProcessNode, ConstantAt, PrefixAt, ChoiceOf, CoopAt, HideOf, ProcessLineNode, FileNode, file_tree}
+use Rattle.pepa_reader.specs.Trees.{RateNode, ProcessNode, ConstantAt, PrefixAt, ChoiceOf, CoopAt, HideOf, ProcessLineNode, file_tree}
 use Rattle.pepa_model.specs.Derivation.{Among}
 use Rattle.pepa_model.specs.Expression.{Const, LeafShape, ConstShape, Definition}
 use Rattle.pepa_model.specs.Spelling.{IsConstantName, IsActionName, IsWrittenRate, HasWrittenRates, HasWrittenShape, HasWrittenDefinition}
 use Rattle.pepa_model.specs.PepaModel.{AreDistinct}
 use Rattle.pepa_resolver.specs.Parts.{name_at, process_ats, processes_of}
-use Rattle.pepa_resolver.specs.Named.{Named, Naming, named}
+use Rattle.pepa_resolver.specs.Named.{Naming, named}
 use Rattle.pepa_resolver.specs.Numbers.{words_in, first_places, actions_of, constants_of}
 use Rattle.pepa_resolver.proofs.Findings.{contains_cases, contains_map_from}
 use Rattle.pepa_resolver.proofs.Bodies.{contains_from_get}

@@ -1,5 +1,5 @@
 -- The names among the tokens of a text are spelled as names are.
-use Rattle.std.proofs.Common.{◌≡◌, ℕ, zero, suc, ◌+◌, ◌-◌, ◌≤◌, ◌⊎◌, inl, inr, Bool, true, false, if◌then◌else◌, List, [], ◌∷◌, ◌++◌, length, drop, nat_eq, Option, Some, None, slice_get, option_map, codes, refl, sym, ap, ◌∙◌, subst, arith, append_assoc}
+use Rattle.std.proofs.Common.{◌≡◌, ℕ, zero, suc, ◌+◌, ◌-◌, ◌⊎◌, inl, inr, Bool, true, false, if◌then◌else◌, List, [], ◌∷◌, ◌++◌, length, drop, nat_eq, Option, Some, None, slice_get, option_map, codes, refl, sym, ap, ◌∙◌, subst, arith}
 use Rattle.std.specs.Prelude.{slice_range}
 use Rattle.std.specs.List.{AllByRecursion}
 use Rattle.std.specs.Cmp.Lexicographic.{pointwise, bytes_decides}
@@ -15,7 +15,7 @@ use Rattle.pepa_reader.specs.Grammar as g
 use Rattle.pepa_reader.specs.Grammar.{word_spelled}
 use Rattle.pepa_reader.specs.declared.terminal.Terminal.{Terminal}
 use Rattle.pepa_reader.specs.declared.terminal.Terminal.TheVariants as terminal
-use Rattle.pepa_reader.specs.Terminals.{text_of, small_terminal, capital_terminal, terminal_from, terminal_of, terminals}
+use Rattle.pepa_reader.specs.Terminals.{text_of, terminal_from, terminal_of, terminals}
 use Rattle.pepa_model.specs.Spelling.{IsShortWord, IsConstantName, IsActionName}
 use Rattle.pepa_resolver.specs.Parts.{bytes_of, name_at}
 

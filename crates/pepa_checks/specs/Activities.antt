@@ -1,6 +1,6 @@
 -- The activities of leaves, as a model has them, and where they are written.
 use Rattle.std.specs.Prelude.{◌≡◌, ℕ, ◌<◌, Bool, if◌then◌else◌, List, [], ◌∷◌, ◌++◌, map, slice_get, Some, slice_index_or}
-use Rattle.pepa_model.specs.Expression.{Expression, Const, WordTerm, LeafOf}
+use Rattle.pepa_model.specs.Expression.{Expression, Const}
 use Rattle.pepa_model.specs.Derivation.{Transition, Among}
 use Rattle.pepa_model.specs.Opened.{Opened, OpenPrefix, OpenChoice, OpenConst, Opens, moves}
 use Rattle.pepa_model.specs.Leaves.{same_expression, place_of}
@@ -13,12 +13,9 @@ use Rattle.pepa_checks.specs.Outline.{is_compound, expression_in, Outline}
 abbrev pub leaf_number : List Expression → Expression → ℕ
 leaf_number leaves e = place_of same_expression leaves e
 
-abbrev pub target_number : List Expression → WordTerm → ℕ
-target_number leaves (LeafOf e) = leaf_number leaves e
-
 -- a transition as an activity, with the number of the leaf that follows
 abbrev pub activity_in : List Expression → Transition → Activity
-activity_in leaves t = record { action = t.action; rate = t.rate; target = target_number leaves t.target }
+activity_in leaves t = record { action = t.action; rate = t.rate; target = leaf_number leaves t.target }
 
 -- the activities of an opened expression
 abbrev pub activities_in : List Expression → Opened → List Activity

@@ -6,7 +6,7 @@ pub mod Limits
 pub mod CheckedFiles
 pub mod Heights
 pub mod Built
-pub mod LeafCounts
+pub mod SystemSizes
 pub mod MixedLists
 pub mod ActivityLists
 pub mod LeavesAnswers

@@ -12,7 +12,7 @@ use crate::leaves::{Leaves, leaves_of};
 use crate::limit_end::LimitEnd;
 use crate::sets::{SetTable, set_table};
 use crate::summand::Performed;
-use crate::system_size::has_many_leaves;
+use crate::system_size::{Measure, is_too_large};
 use pepa_resolver::StructuredFile;
 use sqlite_items::Items;
 use std::alloc::Global;
@@ -33,7 +33,7 @@ pub(crate) struct Counted {
     pub(crate) performed: Items<Items<Performed>>,
 }
 
-/// Counts the action types, the sets, the leaves and their activities, and the leaves of the system.
+/// Counts the action types, the sets, the leaves and their activities, and the leaves and the nodes of the system.
 pub(crate) fn count(alloc: Global, file: &StructuredFile) -> Result<Counted, LimitEnd>
     requires built { IsBuilt file.now.compounds (bodies_of file.now.bodies) (named_of file.now.system) }
     requires compounds { IsOrder (CompoundEdge (bodies_of file.now.bodies)) (length (bodies_of file.now.bodies)) file.now.compound_order }
@@ -60,8 +60,19 @@ pub(crate) fn count(alloc: Global, file: &StructuredFile) -> Result<Counted, Lim
         constants,
         leaves.summands.as_slice(),
     )?;
-    if has_many_leaves(
+    if is_too_large(
         alloc,
+        Measure::Leaves,
+        compounds,
+        file.compound_order.as_slice(),
+        bodies,
+        system,
+    )? {
+        return Err(LimitEnd::TooMany);
+    }
+    if is_too_large(
+        alloc,
+        Measure::Nodes,
         compounds,
         file.compound_order.as_slice(),
         bodies,

@@ -21,6 +21,3 @@ mod system_size;
 
 pub use file_check::check;
 pub use pepa_resolver::{CheckCause, CheckEnd};
-
-#[cfg(test)]
-mod tests;

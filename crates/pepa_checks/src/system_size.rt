@@ -1,25 +1,53 @@
-//! How many leaves the expanded system has.
+//! How many leaves and how many nodes the expanded system has.
 ghost use Rattle.std.specs.Prelude.{◌≡◌, ◌+◌, ◌<◌, ◌↔◌, List, ℕ, length, IfOk, IsTrue, slice_index};
-ghost use Rattle.pepa_model.specs.Expanded.{Expanded, Expands, leaves_in};
+ghost use Rattle.pepa_model.specs.Expanded.{Expanded, Expands};
 ghost use Rattle.pepa_resolver.specs.Named.{constants_named};
 ghost use Rattle.pepa_resolver.specs.NamedTypes.{named_of, bodies_of};
 ghost use Rattle.pepa_resolver.specs.Structure.{IsCompound, CompoundEdge};
 ghost use Rattle.pepa_resolver.specs.Graphs.{AreBelow, IsTableOf, IsOrder};
 ghost use Rattle.pepa_checks.specs.Outline.{is_compound as is_compound_constant, outline_with};
-ghost use Rattle.pepa_checks.specs.LeafCounts.{capped, IsCountIn};
+ghost use Rattle.pepa_checks.specs.SystemSizes.{measured, own_count, most_of, capped, IsCountIn};
 
 use pepa_resolver::NamedProcess;
 use sqlite_items::Items;
 use std::alloc::{AllocError, Global};
 
-/// The most leaves that a system may have.
-const MOST_LEAVES: usize = 255;
+/// What is counted of a system.
+#[derive(Clone, Copy, Debug)]
+pub(crate) enum Measure {
+    Leaves,
+    /// The leaves, the cooperations and the hidings.
+    Nodes,
+}
 
-/// The sum of two counts, where one more than the most stands for all greater ones.
-fn joined(left: usize, right: usize) -> usize
-    ensures { (m : ℕ) (n : ℕ) → left ≡ capped m → right ≡ capped n → result ≡ capped (m + n) }
+impl Measure {
+    /// The most that a system may have.
+    fn most(self) -> usize
+        ensures { result ≡ most_of self }
+    {
+        match self {
+            Measure::Leaves => 255,
+            Measure::Nodes => 1023,
+        }
+    }
+
+    /// What a cooperation or a hiding counts by itself.
+    fn own(self) -> usize
+        ensures { result ≡ own_count self }
+    {
+        match self {
+            Measure::Leaves => 0,
+            Measure::Nodes => 1,
+        }
+    }
+}
+
+/// The count of a cooperation, where one more than the most stands for all greater ones.
+fn joined(measure: Measure, left: usize, right: usize) -> usize
+    ensures { (m : ℕ) (n : ℕ) → left ≡ capped measure m → right ≡ capped measure n → result ≡ capped measure ((m + n) + own_count measure) }
 {
-    left.saturating_add(right).min(MOST_LEAVES + 1)
+    let both = left.saturating_add(right).saturating_add(measure.own());
+    both.min(measure.most() + 1)
 }
 
 /// Whether a constant is compound.
@@ -36,9 +64,9 @@ fn count_at(counts: &[usize], constant: u32) -> usize
     counts.get(constant as usize).copied().unwrap_or(0)
 }
 
-/// How many leaves a process has as a system, by the counts of the compound constants.
-fn count_leaves(compounds: &[bool], counts: &[usize], process: &NamedProcess) -> usize
-    ensures { IsCountIn compounds.now counts.now (constants_named (named_of process.now)) (named_of process.now) result }
+/// The size of a process as a system, by those of the compound constants.
+fn size_of(measure: Measure, compounds: &[bool], counts: &[usize], process: &NamedProcess) -> usize
+    ensures { IsCountIn measure compounds.now counts.now (constants_named (named_of process.now)) (named_of process.now) result }
 {
     match process {
         NamedProcess::Constant { number, .. } => {
@@ -51,19 +79,22 @@ fn count_leaves(compounds: &[bool], counts: &[usize], process: &NamedProcess) ->
         NamedProcess::Prefix { .. } => 1,
         NamedProcess::Choice(..) => 1,
         NamedProcess::Coop { left, right, .. } => {
-            let before = count_leaves(compounds, counts, left);
-            let behind = count_leaves(compounds, counts, right);
-            joined(before, behind)
+            let before = size_of(measure, compounds, counts, left);
+            let behind = size_of(measure, compounds, counts, right);
+            joined(measure, before, behind)
         }
-        NamedProcess::Hide { inner, .. } => count_leaves(compounds, counts, inner),
+        NamedProcess::Hide { inner, .. } => {
+            joined(measure, size_of(measure, compounds, counts, inner), 0)
+        }
     }
 }
 
-/// Whether the system with its compound constants expanded has more than 255 leaves.
+/// Whether the system with its compound constants expanded has more than 255 leaves, or more than 1,023 nodes.
 ///
 /// The constants stand in the order behind those in their bodies, so each is counted once.
-pub(crate) fn has_many_leaves(
+pub(crate) fn is_too_large(
     alloc: Global,
+    measure: Measure,
     compounds: &[bool],
     order: &[u32],
     bodies: &[NamedProcess],
@@ -73,18 +104,18 @@ pub(crate) fn has_many_leaves(
     requires compounds { IsTableOf (IsCompound (bodies_of bodies.now)) compounds.now }
     requires below { AreBelow (length bodies.now) (constants_named (named_of system.now)) }
     requires order { IsOrder (CompoundEdge (bodies_of bodies.now)) (length bodies.now) order.now }
-    ensures { IfOk result (λ many. (sets : List (List ℕ)) (tree : Expanded)
+    ensures { IfOk result (λ large. (sets : List (List ℕ)) (tree : Expanded)
         → Expands (outline_with sets compounds.now (bodies_of bodies.now) (named_of system.now)).definitions (outline_with sets compounds.now (bodies_of bodies.now) (named_of system.now)).system tree
-        → (IsTrue many ↔ (255 < leaves_in tree))) }
+        → (IsTrue large ↔ (most_of measure < measured measure tree))) }
 {
     let mut counts = Items::from_vec(vec![in alloc; 0; bodies.len()]?);
     for constant in order {
         let at = *constant as usize;
         if compounds[at] {
-            let count = count_leaves(compounds, counts.as_slice(), &bodies[at]);
+            let count = size_of(measure, compounds, counts.as_slice(), &bodies[at]);
             counts.set(at, count);
         }
     }
-    let count = count_leaves(compounds, counts.as_slice(), system);
-    Ok(count > MOST_LEAVES)
+    let count = size_of(measure, compounds, counts.as_slice(), system);
+    Ok(count > measure.most())
 }

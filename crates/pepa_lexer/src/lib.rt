@@ -19,6 +19,3 @@ mod signs;
 
 pub use kinds::{Kind, LexFault, Place, Sign, Token, Tokens};
 pub use lexer::tokens;
-
-#[cfg(test)]
-mod tests;

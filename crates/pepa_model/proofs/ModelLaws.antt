@@ -33,7 +33,7 @@ leaf_opens m sound number e at =
     record { opened = leaf.opened; opens = leaf.opens; shallow = leaf.shallow }
 
 pub system_expands : (m : PepaModel) → IsModel m → HasTree m m.system
-system_expands m sound = sound.few_leaves.expanded
+system_expands m sound = sound.small_tree.expanded
 
 pub compound_expands : (m : PepaModel) → IsModel m → (c : ℕ) (shape : Shape) → IsCompound m.bodies c shape → HasTree m shape
 compound_expands m sound c shape is = (sound.compounds c shape is).expanded

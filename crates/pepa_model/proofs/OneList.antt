@@ -1,26 +1,24 @@
--- A term has one transition list, and one verdict.
-use Rattle.std.proofs.Common.{◌≡◌, ℕ, ◌<◌, List, [], ◌∷◌, ◌++◌, ◌⊎◌, inl, inr, refl, sym, ap, subst, ◌∙◌, arith}
+-- A component has one transition list and one tree, and an apparent rate one fault.
+use Rattle.std.proofs.Common.{◌≡◌, ℕ, List, [], ◌∷◌, ◌⊎◌, inl, inr, refl, sym, ap, subst, ◌∙◌}
 use Rattle.std.specs.List.{AllByRecursion, AllZip}
-use Rattle.std.proofs.lemmas.Bool.{cases_order}
 use Rattle.pepa_rates.specs.declared.rate.RateFault.{RateFault}
-use Rattle.pepa_model.specs.Expression.{Expression, Const, Prefixed, Chosen, WordTerm, LeafOf, Definition, Defines}
+use Rattle.pepa_model.specs.Expression.{Expression, Const, Prefixed, Chosen, Definition, Defines}
 use Rattle.pepa_model.specs.Derivation.{Derivation, ByPrefix, ByLeft, ByRight, ByConstant, Transition, Concludes, Precedes, InDerivationOrder, Among, IsTransitionList}
-use Rattle.pepa_model.specs.Opened.{Opened, OpenPrefix, OpenChoice, OpenConst, Opens, parts}
-use Rattle.pepa_model.specs.Apparent.{Apparent, NoRate, Rated, Undefined, apparent_rate, IsFine, HasFault}
-use Rattle.pepa_model.specs.Verdict.{IsFinePart, HasRateFault, HasPartFault, TermFault, OfRates, OfLength, IsWithoutFault, IsVerdict}
+use Rattle.pepa_model.specs.Opened.{Opened, OpenPrefix, OpenChoice, OpenConst, Opens}
+use Rattle.pepa_model.specs.Apparent.{Apparent, NoRate, Rated, Undefined, IsFine, HasFault}
 
 -- ---- derivations
 
 same_body : (definitions : List Definition) (c : ℕ) (x y : Expression) → Defines definitions c x → Defines definitions c y → x ≡ y
 same_body definitions c x y h k = cc
 
--- a derivation concludes one transition of a term
-pub same_conclusion : (definitions : List Definition) (d : Derivation) (e : Expression) (s t : Transition) → Concludes definitions d (LeafOf e) s → Concludes definitions d (LeafOf e) t → s ≡ t
+-- a derivation concludes one transition of a component
+pub same_conclusion : (definitions : List Definition) (d : Derivation) (e : Expression) (s t : Transition) → Concludes definitions d e s → Concludes definitions d e t → s ≡ t
 same_conclusion definitions ByPrefix (Prefixed a r next) s t h k = h ∙ sym k
 same_conclusion definitions (ByLeft d) (Chosen x y) s t h k = same_conclusion definitions d x s t h k
 same_conclusion definitions (ByRight d) (Chosen x y) s t h k = same_conclusion definitions d y s t h k
 same_conclusion definitions (ByConstant d) (Const c) s t (e, e_is, h) (f, f_is, k) =
-    same_conclusion definitions d e s t h (subst (λ e. Concludes definitions d (LeafOf e) t) (same_body definitions c f e f_is e_is) k)
+    same_conclusion definitions d e s t h (subst (λ e. Concludes definitions d e t) (same_body definitions c f e f_is e_is) k)
 same_conclusion definitions ByPrefix (Const c) s t h k = absurd h
 same_conclusion definitions ByPrefix (Chosen x y) s t h k = absurd h
 same_conclusion definitions (ByLeft d) (Const c) s t h k = absurd h
@@ -86,7 +84,7 @@ same_derivations (d ∷ ds) (e ∷ es) h k to from =
 
 module _ (definitions : List Definition) (e : Expression) where
   abbrev Concluded : Derivation → Transition → Type 0
-  Concluded d t = Concludes definitions d (LeafOf e) t
+  Concluded d t = Concludes definitions d e t
 
   has_conclusion : (d : Derivation) (ds : List Derivation) (ts : List Transition) → AllZip Concluded ds ts → Among d ds → (t : Transition) × Concluded d t
   has_conclusion d [] ts h k = absurd k
@@ -94,7 +92,7 @@ module _ (definitions : List Definition) (e : Expression) where
   has_conclusion d (x ∷ ds) (t ∷ ts) h (inl same) = (t, subst (λ (x : Derivation). Concluded x t) (sym same) h.0)
   has_conclusion d (x ∷ ds) (t ∷ ts) h (inr k) = has_conclusion d ds ts h.1 k
 
-  within : (ts us : List Transition) (x : IsTransitionList definitions (LeafOf e) ts) (y : IsTransitionList definitions (LeafOf e) us) → Within x.derivations y.derivations
+  within : (ts us : List Transition) (x : IsTransitionList definitions e ts) (y : IsTransitionList definitions e us) → Within x.derivations y.derivations
   within ts us x y d among =
       let (t, concluded) = has_conclusion d x.derivations ts x.conclusions among in
       y.complete d t concluded
@@ -108,15 +106,15 @@ module _ (definitions : List Definition) (e : Expression) where
   same_conclusions (d ∷ ds) (t ∷ ts) (u ∷ us) h k =
       ap (λ (x : Transition). x ∷ ts) (same_conclusion definitions d e t u h.0 k.0) ∙ ap (λ (l : List Transition). u ∷ l) (same_conclusions ds ts us h.1 k.1)
 
-  same_list : (ts us : List Transition) → IsTransitionList definitions (LeafOf e) ts → IsTransitionList definitions (LeafOf e) us → ts ≡ us
+  same_list : (ts us : List Transition) → IsTransitionList definitions e ts → IsTransitionList definitions e us → ts ≡ us
   same_list ts us x y =
       let same = same_derivations x.derivations y.derivations x.in_order y.in_order (within ts us x y) (within us ts y x) in
       same_conclusions x.derivations ts us x.conclusions (subst (λ (ds : List Derivation). AllZip Concluded ds us) (sym same) y.conclusions)
 
-pub one_list : (definitions : List Definition) (term : WordTerm) (ts us : List Transition) → IsTransitionList definitions term ts → IsTransitionList definitions term us → ts ≡ us
-one_list definitions (LeafOf e) ts us x y = same_list definitions e ts us x y
+pub one_list : (definitions : List Definition) (e : Expression) (ts us : List Transition) → IsTransitionList definitions e ts → IsTransitionList definitions e us → ts ≡ us
+one_list definitions e ts us x y = same_list definitions e ts us x y
 
--- ---- the verdict
+-- ---- trees, and faults
 
 pub one_opening : (definitions : List Definition) (e f : Expression) (o p : Opened) → e ≡ f → Opens definitions e o → Opens definitions f p → o ≡ p
 one_opening definitions e f (OpenPrefix a r next) (OpenPrefix b s after) is h k = cc
@@ -144,50 +142,3 @@ pub same_fault : (x : Apparent) (f g : RateFault) → HasFault x f → HasFault 
 same_fault NoRate f g h k = absurd h
 same_fault (Rated r) f g h k = h.0 ∙ sym k.0
 same_fault Undefined f g h k = h ∙ sym k
-
-part_not_fine : (p : Opened) (f : TermFault) → HasPartFault p f → IsFinePart p → ⊥
-part_not_fine p (OfRates f) h k = faulty_not_fine (apparent_rate p h.action) f h.faulty (k.rates h.action h.positive)
-part_not_fine p OfLength h k = omega (arith, h.long, k.short)
-
-same_rate_fault : (p : Opened) (f g : RateFault) → HasRateFault p f → HasRateFault p g → f ≡ g
-same_rate_fault p f g h k = of_cases (cases_order h.action k.action)
-  where
-    of_cases : (h.action ≡ k.action) ⊎ ((h.action < k.action) ⊎ (k.action < h.action)) → f ≡ g
-    of_cases (inl e) = same_fault (apparent_rate p h.action) f g h.faulty (subst (λ (n : ℕ). HasFault (apparent_rate p n) g) (sym e) k.faulty)
-    of_cases (inr (inl lt)) = absurd (faulty_not_fine (apparent_rate p h.action) f h.faulty (k.least h.action h.positive lt))
-    of_cases (inr (inr gt)) = absurd (faulty_not_fine (apparent_rate p k.action) g k.faulty (h.least k.action k.positive gt))
-
-same_part_fault : (p : Opened) (f g : TermFault) → HasPartFault p f → HasPartFault p g → f ≡ g
-same_part_fault p (OfRates f) (OfRates g) h k = ap OfRates (same_rate_fault p f g h k)
-same_part_fault p (OfRates f) OfLength h k = absurd (faulty_not_fine (apparent_rate p h.action) f h.faulty (k.rates h.action h.positive))
-same_part_fault p OfLength (OfRates g) h k = absurd (faulty_not_fine (apparent_rate p k.action) g k.faulty (h.rates k.action k.positive))
-same_part_fault p OfLength OfLength h k = refl
-
--- the first faults of one list
-same_first_fault : (b c a d : List Opened) (p q : Opened) (f g : TermFault) → b ++ p ∷ a ≡ c ++ q ∷ d → AllByRecursion IsFinePart b → AllByRecursion IsFinePart c → HasPartFault p f → HasPartFault q g → f ≡ g
-same_first_fault [] [] a d p q f g is fb fc h k =
-    let same : p ≡ q = cc in
-    same_part_fault p f g h (subst (λ (x : Opened). HasPartFault x g) (sym same) k)
-same_first_fault [] (y ∷ c) a d p q f g is fb fc h k =
-    let same : p ≡ y = cc in
-    absurd (part_not_fine p f h (subst IsFinePart (sym same) fc.0))
-same_first_fault (x ∷ b) [] a d p q f g is fb fc h k =
-    let same : x ≡ q = cc in
-    absurd (part_not_fine q g k (subst IsFinePart same fb.0))
-same_first_fault (x ∷ b) (y ∷ c) a d p q f g is fb fc h k =
-    let rest : b ++ p ∷ a ≡ c ++ q ∷ d = cc in
-    same_first_fault b c a d p q f g rest fb.1 fc.1 h k
-
-none_fine : (b a : List Opened) (p : Opened) (f : TermFault) → HasPartFault p f → AllByRecursion IsFinePart (b ++ p ∷ a) → ⊥
-none_fine [] a p f h k = part_not_fine p f h k.0
-none_fine (x ∷ b) a p f h k = none_fine b a p f h k.1
-
-pub one_verdict : (definitions : List Definition) (term : WordTerm) (f g : TermFault) → IsVerdict definitions term f → IsVerdict definitions term g → f ≡ g
-one_verdict definitions (LeafOf e) f g (o, opens, h) (p, opens_too, k) =
-    let same = one_opening definitions e e o p refl opens opens_too in
-    same_first_fault h.before k.before h.after k.after h.at k.at f g (sym h.whole ∙ ap parts same ∙ k.whole) h.fine k.fine h.faulty k.faulty
-
-pub verdict_or_none : (definitions : List Definition) (term : WordTerm) (f : TermFault) → IsVerdict definitions term f → IsWithoutFault definitions term → ⊥
-verdict_or_none definitions (LeafOf e) f (o, opens, h) (p, opens_too, k) =
-    let same = one_opening definitions e e o p refl opens opens_too in
-    none_fine h.before h.after h.at f h.faulty (subst (AllByRecursion IsFinePart) (sym (ap parts same) ∙ h.whole) k)

@@ -1,7 +1,7 @@
 -- The moves of an opened component are its transition list.
 use Rattle.std.proofs.Common.{◌≡◌, ℕ, List, [], ◌∷◌, ◌++◌, map, inl, inr, refl, sym, ap, subst}
 use Rattle.std.specs.List.{AllByRecursion, AllZip}
-use Rattle.pepa_model.specs.Expression.{Expression, Const, Prefixed, Chosen, LeafOf, Definition, Defines}
+use Rattle.pepa_model.specs.Expression.{Expression, Const, Prefixed, Chosen, Definition, Defines}
 use Rattle.pepa_model.specs.Derivation.{Derivation, ByPrefix, ByLeft, ByRight, ByConstant, Transition, leaf_transition, Concludes, Precedes, InDerivationOrder, Among, IsTransitionList}
 use Rattle.pepa_model.specs.Opened.{Opened, OpenPrefix, OpenChoice, OpenConst, Opens, moves}
 
@@ -71,53 +71,53 @@ in_order (OpenChoice p q) = InDerivationOrder-choice (derivations_of p) (derivat
 in_order (OpenConst c p) = InDerivationOrder-map ByConstant (λ d e h. h) (derivations_of p) (in_order p)
 
 module _ (definitions : List Definition) where
-  conclusions : (e : Expression) (o : Opened) → Opens definitions e o → AllZip (λ d t. Concludes definitions d (LeafOf e) t) (derivations_of o) (moves o)
+  conclusions : (e : Expression) (o : Opened) → Opens definitions e o → AllZip (λ d t. Concludes definitions d e t) (derivations_of o) (moves o)
   conclusions e (OpenPrefix a r next) h =
-      subst (λ e. AllZip (λ d t. Concludes definitions d (LeafOf e) t) (ByPrefix ∷ []) (leaf_transition a r next ∷ [])) (sym h) (refl, tt)
+      subst (λ e. AllZip (λ d t. Concludes definitions d e t) (ByPrefix ∷ []) (leaf_transition a r next ∷ [])) (sym h) (refl, tt)
   conclusions e (OpenChoice p q) (x, y, e_is, opens_x, opens_y) =
-      subst (λ e. AllZip (λ d t. Concludes definitions d (LeafOf e) t) (map ByLeft (derivations_of p) ++ map ByRight (derivations_of q)) (moves p ++ moves q)) (sym e_is)
-      (AllZip-append (λ d t. Concludes definitions d (LeafOf (Chosen x y)) t) (map ByLeft (derivations_of p)) (map ByRight (derivations_of q)) (moves p) (moves q)
-      (AllZip-map (λ d t. Concludes definitions d (LeafOf x) t) (λ d t. Concludes definitions d (LeafOf (Chosen x y)) t) ByLeft (λ d t k. k) (derivations_of p) (moves p) (conclusions x p opens_x))
-      (AllZip-map (λ d t. Concludes definitions d (LeafOf y) t) (λ d t. Concludes definitions d (LeafOf (Chosen x y)) t) ByRight (λ d t k. k) (derivations_of q) (moves q) (conclusions y q opens_y)))
+      subst (λ e. AllZip (λ d t. Concludes definitions d e t) (map ByLeft (derivations_of p) ++ map ByRight (derivations_of q)) (moves p ++ moves q)) (sym e_is)
+      (AllZip-append (λ d t. Concludes definitions d (Chosen x y) t) (map ByLeft (derivations_of p)) (map ByRight (derivations_of q)) (moves p) (moves q)
+      (AllZip-map (λ d t. Concludes definitions d x t) (λ d t. Concludes definitions d (Chosen x y) t) ByLeft (λ d t k. k) (derivations_of p) (moves p) (conclusions x p opens_x))
+      (AllZip-map (λ d t. Concludes definitions d y t) (λ d t. Concludes definitions d (Chosen x y) t) ByRight (λ d t k. k) (derivations_of q) (moves q) (conclusions y q opens_y)))
   conclusions e (OpenConst c p) (e_is, (body, defined, opens_body)) =
-      subst (λ e. AllZip (λ d t. Concludes definitions d (LeafOf e) t) (map ByConstant (derivations_of p)) (moves p)) (sym e_is)
-      (AllZip-map (λ d t. Concludes definitions d (LeafOf body) t) (λ d t. Concludes definitions d (LeafOf (Const c)) t) ByConstant (λ d t k. (body, defined, k)) (derivations_of p) (moves p) (conclusions body p opens_body))
+      subst (λ e. AllZip (λ d t. Concludes definitions d e t) (map ByConstant (derivations_of p)) (moves p)) (sym e_is)
+      (AllZip-map (λ d t. Concludes definitions d body t) (λ d t. Concludes definitions d (Const c) t) ByConstant (λ d t k. (body, defined, k)) (derivations_of p) (moves p) (conclusions body p opens_body))
 
   same_body : (c : ℕ) (x y : Expression) → Defines definitions c x → Defines definitions c y → x ≡ y
   same_body c x y h k = cc
 
-  prefix_only : (d : Derivation) (a : ℕ) (r : _) (next : Expression) (t : Transition) → Concludes definitions d (LeafOf (Prefixed a r next)) t → Among d (ByPrefix ∷ [])
+  prefix_only : (d : Derivation) (a : ℕ) (r : _) (next : Expression) (t : Transition) → Concludes definitions d (Prefixed a r next) t → Among d (ByPrefix ∷ [])
   prefix_only ByPrefix a r next t k = inl refl
   prefix_only (ByLeft d) a r next t k = absurd k
   prefix_only (ByRight d) a r next t k = absurd k
   prefix_only (ByConstant d) a r next t k = absurd k
 
   choice_only : (d : Derivation) (x y : Expression) (ds es : List Derivation) (t : Transition)
-      → ((d : Derivation) (t : Transition) → Concludes definitions d (LeafOf x) t → Among d ds)
-      → ((d : Derivation) (t : Transition) → Concludes definitions d (LeafOf y) t → Among d es)
-      → Concludes definitions d (LeafOf (Chosen x y)) t → Among d (map ByLeft ds ++ map ByRight es)
+      → ((d : Derivation) (t : Transition) → Concludes definitions d x t → Among d ds)
+      → ((d : Derivation) (t : Transition) → Concludes definitions d y t → Among d es)
+      → Concludes definitions d (Chosen x y) t → Among d (map ByLeft ds ++ map ByRight es)
   choice_only ByPrefix x y ds es t left right k = absurd k
   choice_only (ByLeft d) x y ds es t left right k = Among-front (ByLeft d) (map ByLeft ds) (map ByRight es) (Among-map ByLeft d ds (left d t k))
   choice_only (ByRight d) x y ds es t left right k = Among-back (ByRight d) (map ByLeft ds) (map ByRight es) (Among-map ByRight d es (right d t k))
   choice_only (ByConstant d) x y ds es t left right k = absurd k
 
   constant_only : (d : Derivation) (c : ℕ) (body : Expression) (ds : List Derivation) (t : Transition) → Defines definitions c body
-      → ((d : Derivation) (t : Transition) → Concludes definitions d (LeafOf body) t → Among d ds)
-      → Concludes definitions d (LeafOf (Const c)) t → Among d (map ByConstant ds)
+      → ((d : Derivation) (t : Transition) → Concludes definitions d body t → Among d ds)
+      → Concludes definitions d (Const c) t → Among d (map ByConstant ds)
   constant_only ByPrefix c body ds t defined inner k = absurd k
   constant_only (ByLeft d) c body ds t defined inner k = absurd k
   constant_only (ByRight d) c body ds t defined inner k = absurd k
   constant_only (ByConstant d) c body ds t defined inner (other, defined_too, k) =
-      Among-map ByConstant d ds (inner d t (subst (λ e. Concludes definitions d (LeafOf e) t) (same_body c other body defined_too defined) k))
+      Among-map ByConstant d ds (inner d t (subst (λ e. Concludes definitions d e t) (same_body c other body defined_too defined) k))
 
-  complete : (e : Expression) (o : Opened) → Opens definitions e o → (d : Derivation) (t : Transition) → Concludes definitions d (LeafOf e) t → Among d (derivations_of o)
-  complete e (OpenPrefix a r next) h d t k = prefix_only d a r next t (subst (λ e. Concludes definitions d (LeafOf e) t) h k)
+  complete : (e : Expression) (o : Opened) → Opens definitions e o → (d : Derivation) (t : Transition) → Concludes definitions d e t → Among d (derivations_of o)
+  complete e (OpenPrefix a r next) h d t k = prefix_only d a r next t (subst (λ e. Concludes definitions d e t) h k)
   complete e (OpenChoice p q) (x, y, e_is, opens_x, opens_y) d t k =
-      choice_only d x y (derivations_of p) (derivations_of q) t (complete x p opens_x) (complete y q opens_y) (subst (λ e. Concludes definitions d (LeafOf e) t) e_is k)
+      choice_only d x y (derivations_of p) (derivations_of q) t (complete x p opens_x) (complete y q opens_y) (subst (λ e. Concludes definitions d e t) e_is k)
   complete e (OpenConst c p) (e_is, (body, defined, opens_body)) d t k =
-      constant_only d c body (derivations_of p) t defined (complete body p opens_body) (subst (λ e. Concludes definitions d (LeafOf e) t) e_is k)
+      constant_only d c body (derivations_of p) t defined (complete body p opens_body) (subst (λ e. Concludes definitions d e t) e_is k)
 
-  pub transition_list : (e : Expression) (o : Opened) → Opens definitions e o → IsTransitionList definitions (LeafOf e) (moves o)
+  pub transition_list : (e : Expression) (o : Opened) → Opens definitions e o → IsTransitionList definitions e (moves o)
   transition_list e o opens = record {
     derivations = derivations_of o;
     conclusions = conclusions e o opens;

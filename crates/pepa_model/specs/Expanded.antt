@@ -24,6 +24,13 @@ leaves_in (ConstTree c p) = leaves_in p
 leaves_in (CoopTree p q set) = leaves_in p + leaves_in q
 leaves_in (HideTree p set) = leaves_in p
 
+-- how many nodes the tree has: its leaves, cooperations and hidings
+abbrev pub nodes_in : Expanded → ℕ
+nodes_in (LeafTree e) = 1
+nodes_in (ConstTree c p) = nodes_in p
+nodes_in (CoopTree p q set) = (nodes_in p + nodes_in q) + 1
+nodes_in (HideTree p set) = nodes_in p + 1
+
 -- how many cooperations, hidings and compound constants stand above one another
 abbrev pub height_of : Expanded → ℕ
 height_of (LeafTree e) = 0

@@ -14,10 +14,6 @@ pub data Expression : Type 0 where
   Prefixed : ℕ → Rate → Expression → Expression
   Chosen : Expression → Expression → Expression
 
--- a sequential component as a state, which is what its transitions lead to
-pub data WordTerm : Type 0 where
-  LeafOf : Expression → WordTerm
-
 -- a system as it is written: a sequential component, a constant that stands for a system, a cooperation over the set of
 -- this number, or a system that hides the set of this number
 pub data Shape : Type 0 where

@@ -4,10 +4,10 @@ use Rattle.std.specs.List.{AllByRecursion, AllZip, range_with_len}
 use Rattle.std.specs.List.Sorted.{IsStrictlyIncreasing}
 use Rattle.pepa_rates.specs.declared.rate.Rate.{Rate}
 use Rattle.pepa_rates.specs.declared.rate.Rate.TheVariants.{Active, Passive}
-use Rattle.pepa_model.specs.Expression.{Expression, Const, Prefixed, Chosen, LeafOf, Shape, LeafShape, ConstShape, CoopShape, HideShape, Definition, IsCompound}
+use Rattle.pepa_model.specs.Expression.{Expression, Const, Prefixed, Chosen, Shape, LeafShape, ConstShape, CoopShape, HideShape, Definition, IsCompound}
 use Rattle.pepa_model.specs.Derivation.{Transition, IsTransitionList, Among}
 use Rattle.pepa_model.specs.Opened.{Opened, Opens, moves, height}
-use Rattle.pepa_model.specs.Expanded.{Expanded, Expands, leaves_in, height_of}
+use Rattle.pepa_model.specs.Expanded.{Expanded, Expands, leaves_in, nodes_in, height_of}
 use Rattle.pepa_model.specs.Leaves.{each_once, leaves_of, set_numbers, action_numbers}
 use Rattle.pepa_model.specs.Spelling.{IsConstantName, IsActionName, HasWrittenShape, HasWrittenDefinition}
 use Rattle.pepa_model.specs.declared.term.Activity.{Activity}
@@ -30,11 +30,11 @@ pub record StandsForTransition (leaves : List Expression) (activity : Activity) 
   pub rate : transition.rate ≡ activity.rate
   pub next : Expression
   pub numbered : slice_get leaves activity.target ≡ Some next
-  pub target : transition.target ≡ LeafOf next
+  pub target : transition.target ≡ next
 
 -- the activities are the transition list of this leaf
 abbrev pub AreTransitionsOf : PepaModel → Expression → List Activity → Type 0
-AreTransitionsOf m e activities = (transitions : List Transition) × IsTransitionList m.bodies (LeafOf e) transitions × AllZip (StandsForTransition m.leaves) activities transitions
+AreTransitionsOf m e activities = (transitions : List Transition) × IsTransitionList m.bodies e transitions × AllZip (StandsForTransition m.leaves) activities transitions
 
 -- the constants and action types of an expression are numbers of the model
 abbrev pub IsNamed : PepaModel → Expression → Type 0
@@ -100,10 +100,11 @@ pub record HasTree (m : PepaModel) (shape : Shape) : Type 0 where
   pub expands : Expands m.bodies shape tree
   pub shallow : height_of tree ≤ 2 ^ 21
 
--- into at most 255 leaves
-pub record HasFewLeaves (m : PepaModel) : Type 0 where
+-- the model's system expands into at most 255 leaves and 1,023 nodes
+pub record HasSmallTree (m : PepaModel) : Type 0 where
   pub expanded : HasTree m m.system
-  pub few : leaves_in expanded.tree ≤ 255
+  pub leaves : leaves_in expanded.tree ≤ 255
+  pub nodes : nodes_in expanded.tree ≤ 1023
 
 -- what a compound constant stands for: a system that is no leaf, and that expands
 pub record IsCompoundBody (m : PepaModel) (shape : Shape) : Type 0 where
@@ -154,7 +155,7 @@ pub record IsModel (m : PepaModel) : Type 0 where
   pub sets : (number : ℕ) (set : List ℕ) → slice_get m.sets number ≡ Some set → IsActionSet m set
   pub compounds : (c : ℕ) (shape : Shape) → IsCompound m.bodies c shape → IsCompoundBody m shape
   pub system : IsShapeOf m m.system
-  pub few_leaves : HasFewLeaves m
+  pub small_tree : HasSmallTree m
   pub numbered : IsNumbered m
   pub spelled : IsSpelled m
   pub limits : IsWithinLimits m

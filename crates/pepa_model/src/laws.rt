@@ -1,22 +1,15 @@
 //! Laws of the definitions. Each function's contract is a law, and a call costs nothing.
 ghost use Rattle.std.specs.Prelude.{◌≡◌, ℕ, List, Some, slice_get};
 ghost use Rattle.std.specs.Bool.{Decides};
-ghost use Rattle.pepa_model.specs.Expression.{Expression, Shape, WordTerm, Definition, IsCompound};
+ghost use Rattle.pepa_model.specs.Expression.{Expression, Shape, Definition, IsCompound};
 ghost use Rattle.pepa_model.specs.Derivation.{Transition, IsTransitionList};
-ghost use Rattle.pepa_model.specs.Verdict.{TermFault, IsWithoutFault, IsVerdict};
 ghost use Rattle.pepa_model.specs.Leaves.{same_expression};
 ghost use Rattle.pepa_model.specs.PepaModel.{PepaModel, HasTree, IsModel};
 ghost use Rattle.pepa_model.specs.ModelLaws.{HasActivities, OpensLow};
 
-/// A term has at most one transition list: its derivations and their order determine it.
+/// A sequential component has at most one transition list: its derivations and their order determine it.
 pub fn one_transition_list()
-    ensures { (definitions : List Definition) (term : WordTerm) (x y : List Transition) → IsTransitionList definitions term x → IsTransitionList definitions term y → x ≡ y }
-{}
-
-/// A term has at most one fault for its verdict, and none where it has no fault.
-pub fn one_verdict()
-    ensures same { (definitions : List Definition) (term : WordTerm) (f g : TermFault) → IsVerdict definitions term f → IsVerdict definitions term g → f ≡ g }
-    ensures apart { (definitions : List Definition) (term : WordTerm) (f : TermFault) → IsVerdict definitions term f → ¬ IsWithoutFault definitions term }
+    ensures { (definitions : List Definition) (e : Expression) (x y : List Transition) → IsTransitionList definitions e x → IsTransitionList definitions e y → x ≡ y }
 {}
 
 /// At each leaf's number there are its activities, and each of them leads to a leaf.

@@ -12,6 +12,3 @@ pub use term::{
     Activity, ActivityList, ActivityLists, Bodies, Body, Sequential, SequentialList, Shape2, Step,
     StepList, Term, Words32, Words32List, leaf_count,
 };
-
-#[cfg(test)]
-mod tests;

@@ -1,3 +1,4 @@
+pub mod Kept
 pub mod KnownBodies
 pub mod LineLists
 pub mod Pieces

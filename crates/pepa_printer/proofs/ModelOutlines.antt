@@ -5,16 +5,16 @@ use Rattle.std.proofs.lemmas.List.{length-map}
 use Rattle.std.proofs.lemmas.List.Sums.{sum_by-cons}
 use Rattle.std.proofs.lemmas.Option.{same_Some}
 use Rattle.pepa_rates.specs.declared.rate.Rate.{Rate}
-use Rattle.pepa_model.specs.Expression.{Expression, WordTerm}
+use Rattle.pepa_model.specs.Expression.{Expression}
 use Rattle.pepa_model.specs.Derivation.{Transition}
 use Rattle.pepa_model.specs.Opened.{Opened, Opens, moves}
-use Rattle.pepa_model.specs.Expanded.{leaves_in}
+use Rattle.pepa_model.specs.Expanded.{leaves_in, nodes_in}
 use Rattle.pepa_model.specs.PepaModel.{PepaModel, IsModel, IsMixedAt, StandsForTransition}
 use Rattle.pepa_model.specs.declared.term.Activity.{Activity}
 use Rattle.pepa_model.proofs.DistinctLeaves.{one_number}
 use Rattle.pepa_resolver.proofs.Bodies.{contains_from_get}
 use Rattle.pepa_checks.specs.Outline.{Outline}
-use Rattle.pepa_checks.specs.Activities.{leaf_number, target_number, activity_in, activities_in, HasActivities, HasNoMixed}
+use Rattle.pepa_checks.specs.Activities.{leaf_number, activity_in, activities_in, HasActivities, HasNoMixed}
 use Rattle.pepa_checks.specs.Limits.{PassesLimit}
 use Rattle.pepa_checks.proofs.LeafNumbers.{leaf_stands}
 use Rattle.pepa_checks.proofs.OneTree.{one_opening, one_expansion}
@@ -31,7 +31,7 @@ module _ (m : PepaModel) (sound : IsModel m) where
   activity_is a t stands =
       let there : slice_get m.leaves (leaf_number m.leaves stands.next) ≡ Some stands.next = leaf_stands m.leaves stands.next (contains_from_get m.leaves a.target stands.next stands.numbered) in
       let same : a.target ≡ leaf_number m.leaves stands.next = one_number m sound a.target (leaf_number m.leaves stands.next) stands.next stands.numbered there in
-      let target : a.target ≡ target_number m.leaves t.target = same ∙ ap (λ (w : WordTerm). target_number m.leaves w) (sym stands.target) in
+      let target : a.target ≡ leaf_number m.leaves t.target = same ∙ ap (leaf_number m.leaves) (sym stands.target) in
       ap (λ (n : ℕ). made n a.rate a.target) (sym stands.action)
       ∙ ap (λ (r : Rate). made t.action r a.target) (sym stands.rate)
       ∙ ap (λ (n : ℕ). made t.action t.rate n) target
@@ -89,7 +89,11 @@ within_limits m is (inr (inr (inr (inl (opened, opens, lt))))) =
     let few = is.limits.activities in
     let total = sums (model_outline m) m.leaves opened m.activities opens (has_activities m is) in
     omega arith
-within_limits m is (inr (inr (inr (inr (tree, expands, lt))))) =
-    let few = is.few_leaves.few in
-    let same : leaves_in tree ≡ leaves_in is.few_leaves.expanded.tree = ap leaves_in (one_expansion m.bodies m.system tree is.few_leaves.expanded.tree expands is.few_leaves.expanded.expands) in
+within_limits m is (inr (inr (inr (inr (inl (tree, expands, lt)))))) =
+    let few = is.small_tree.leaves in
+    let same : leaves_in tree ≡ leaves_in is.small_tree.expanded.tree = ap leaves_in (one_expansion m.bodies m.system tree is.small_tree.expanded.tree expands is.small_tree.expanded.expands) in
+    omega arith
+within_limits m is (inr (inr (inr (inr (inr (tree, expands, lt)))))) =
+    let few = is.small_tree.nodes in
+    let same : nodes_in tree ≡ nodes_in is.small_tree.expanded.tree = ap nodes_in (one_expansion m.bodies m.system tree is.small_tree.expanded.tree expands is.small_tree.expanded.expands) in
     omega arith

@@ -3,7 +3,6 @@ use Rattle.std.proofs.Common.{◌≡◌, ℕ, List, [], Result, Ok, Err, IfOk, s
 use Rattle.std.specs.List.{AllZip}
 use Rattle.pepa_lexer.specs.declared.kinds.Token.{Token}
 use Rattle.pepa_reader.specs.Trees.{FileNode, file_tree}
-use Rattle.pepa_model.specs.Expression.{Expression, Definition, Shape}
 use Rattle.pepa_model.specs.PepaModel.{PepaModel, IsModel}
 use Rattle.pepa_resolver.specs.Parts.{name_at}
 use Rattle.pepa_resolver.specs.Numbers.{actions_of}

@@ -1,5 +1,5 @@
 -- Processes with numbers that are the parts of a model, but for the places where they stand.
-use Rattle.std.specs.Prelude.{◌≡◌, ℕ, List, Some, slice_get}
+use Rattle.std.specs.Prelude.{◌≡◌, List, Some, slice_get}
 use Rattle.std.specs.List.{AllZip}
 use Rattle.pepa_model.specs.Expression.{Expression, Const, Prefixed, Chosen, Shape, LeafShape, ConstShape, CoopShape, HideShape, Definition, Sequentially, Compoundly}
 use Rattle.pepa_model.specs.PepaModel.{PepaModel}

@@ -1,5 +1,6 @@
 //! The text of sequential components.
-ghost use Rattle.std.specs.Prelude.{◌≡◌, ◌++◌, ◌<◌, OnOk, length};
+ghost use Rattle.std.specs.Prelude.{◌≡◌, ◌++◌, ◌<◌, OnOk, OnErr, length};
+ghost use Rattle.std.specs.Io.{StartsWith};
 ghost use Rattle.pepa_model.specs.Expression.{expression_of};
 ghost use Rattle.pepa_model.specs.PepaModel.{IsNamed};
 ghost use Rattle.pepa_printer.specs.ComponentText as spec;
@@ -19,7 +20,8 @@ pub fn push_expression(
     expression: &Sequential,
 ) -> Result<(), AllocError>
     requires { IsNamed model.now (expression_of expression.now) }
-    ensures { OnOk result (to.new.items ≡ to.old.items ++ expression_text model.now (expression_of expression.now)) }
+    ensures text { OnOk result (to.new.items ≡ to.old.items ++ expression_text model.now (expression_of expression.now)) }
+    ensures kept { OnErr result (StartsWith to.new.items to.old.items) }
 {
     match expression {
         Sequential::Constant(constant) => push_constant(to, model, *constant),
@@ -57,7 +59,8 @@ fn push_prefix(
     rate: &Rate,
 ) -> Result<(), AllocError>
     requires { action < length model.now.actions }
-    ensures { OnOk result (to.new.items ≡ to.old.items ++ prefix_text model.now action rate.now) }
+    ensures text { OnOk result (to.new.items ≡ to.old.items ++ prefix_text model.now action rate.now) }
+    ensures kept { OnErr result (StartsWith to.new.items to.old.items) }
 {
     push_text(to, b"(")?;
     push_action(to, model, action)?;
@@ -69,7 +72,8 @@ fn push_prefix(
 /// Appends the name of an action type.
 pub fn push_action(to: &mut Vec<u8>, model: &Model, action: u32) -> Result<(), AllocError>
     requires { action < length model.now.actions }
-    ensures { OnOk result (to.new.items ≡ to.old.items ++ name_of model.now.actions action) }
+    ensures text { OnOk result (to.new.items ≡ to.old.items ++ name_of model.now.actions action) }
+    ensures kept { OnErr result (StartsWith to.new.items to.old.items) }
 {
     push_text(to, model.action_name(action).as_bytes())
 }
@@ -77,7 +81,8 @@ pub fn push_action(to: &mut Vec<u8>, model: &Model, action: u32) -> Result<(), A
 /// Appends the name of a constant.
 pub fn push_constant(to: &mut Vec<u8>, model: &Model, constant: u32) -> Result<(), AllocError>
     requires { constant < length model.now.constants }
-    ensures { OnOk result (to.new.items ≡ to.old.items ++ name_of model.now.constants constant) }
+    ensures text { OnOk result (to.new.items ≡ to.old.items ++ name_of model.now.constants constant) }
+    ensures kept { OnErr result (StartsWith to.new.items to.old.items) }
 {
     push_text(to, model.constant_name(constant).as_bytes())
 }

@@ -26,6 +26,3 @@ pub use lines::print_model;
 pub use rates::push_rate;
 pub use systems::{push_hiding, push_sign};
 pub use text::{push_bracket, push_text};
-
-#[cfg(test)]
-mod tests;

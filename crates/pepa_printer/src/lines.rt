@@ -1,5 +1,6 @@
 //! The text of lines and of models.
-ghost use Rattle.std.specs.Prelude.{◌≡◌, ◌++◌, ◌<◌, OnOk, IfOk, length};
+ghost use Rattle.std.specs.Prelude.{◌≡◌, ◌++◌, ◌<◌, OnOk, OnErr, IfOk, length};
+ghost use Rattle.std.specs.Io.{StartsWith};
 ghost use Rattle.pepa_model.specs.Expression.{definition_of};
 ghost use Rattle.pepa_checks.specs.CheckedFiles.{IsTextOf};
 ghost use Rattle.pepa_printer.specs.ComponentText.{name_of};
@@ -59,7 +60,8 @@ fn push_line(
 ) -> Result<(), AllocError>
     requires constant { constant < length model.now.constants }
     requires body { IsBodyOf model.now (definition_of body.now) }
-    ensures { OnOk result (to.new.items ≡ to.old.items ++ line_text model.now (name_of model.now.constants constant) (definition_of body.now)) }
+    ensures text { OnOk result (to.new.items ≡ to.old.items ++ line_text model.now (name_of model.now.constants constant) (definition_of body.now)) }
+    ensures kept { OnErr result (StartsWith to.new.items to.old.items) }
 {
     push_constant(to, model, constant)?;
     push_text(to, b" = ")?;
@@ -76,7 +78,8 @@ fn push_definition(
     body: &Body,
 ) -> Result<(), AllocError>
     requires { IsBodyOf model.now (definition_of body.now) }
-    ensures { OnOk result (to.new.items ≡ to.old.items ++ definition_text model.now (definition_of body.now)) }
+    ensures text { OnOk result (to.new.items ≡ to.old.items ++ definition_text model.now (definition_of body.now)) }
+    ensures kept { OnErr result (StartsWith to.new.items to.old.items) }
 {
     match body {
         Body::Plain(component) => push_expression(alloc, to, model, component),

@@ -1,5 +1,6 @@
 //! The text of systems and of sets.
-ghost use Rattle.std.specs.Prelude.{◌≡◌, ◌++◌, ◌<◌, OnOk, length};
+ghost use Rattle.std.specs.Prelude.{◌≡◌, ◌++◌, ◌<◌, OnOk, OnErr, length};
+ghost use Rattle.std.specs.Io.{StartsWith};
 ghost use Rattle.std.specs.List.{All};
 ghost use Rattle.pepa_model.specs.Expression.{expression_of, shape_of};
 ghost use Rattle.pepa_model.specs.PepaModel.{IsShapeOf};
@@ -21,7 +22,8 @@ pub(crate) fn push_shape(
     shape: &Shape2,
 ) -> Result<(), AllocError>
     requires { IsShapeOf model.now (shape_of shape.now) }
-    ensures { OnOk result (to.new.items ≡ to.old.items ++ shape_text model.now (shape_of shape.now)) }
+    ensures text { OnOk result (to.new.items ≡ to.old.items ++ shape_text model.now (shape_of shape.now)) }
+    ensures kept { OnErr result (StartsWith to.new.items to.old.items) }
 {
     model.is_sound();
     match shape {
@@ -75,7 +77,8 @@ fn is_composed(expression: &Sequential) -> bool
 /// Appends the sign of a cooperation: `||`, or `<a,b>`.
 pub fn push_sign(to: &mut Vec<u8>, model: &Model, number: u32) -> Result<(), AllocError>
     requires { number < length model.now.sets }
-    ensures { OnOk result (to.new.items ≡ to.old.items ++ sign_text model.now (set_of model.now number)) }
+    ensures text { OnOk result (to.new.items ≡ to.old.items ++ sign_text model.now (set_of model.now number)) }
+    ensures kept { OnErr result (StartsWith to.new.items to.old.items) }
 {
     let set = parts::set(model, number);
     if set.is_empty() {
@@ -89,7 +92,8 @@ pub fn push_sign(to: &mut Vec<u8>, model: &Model, number: u32) -> Result<(), All
 /// Appends `/{a,b}`.
 pub fn push_hiding(to: &mut Vec<u8>, model: &Model, number: u32) -> Result<(), AllocError>
     requires { number < length model.now.sets }
-    ensures { OnOk result (to.new.items ≡ to.old.items ++ hiding_text model.now (set_of model.now number)) }
+    ensures text { OnOk result (to.new.items ≡ to.old.items ++ hiding_text model.now (set_of model.now number)) }
+    ensures kept { OnErr result (StartsWith to.new.items to.old.items) }
 {
     push_text(to, b"/{")?;
     push_set(to, model, parts::set(model, number))?;
@@ -99,7 +103,8 @@ pub fn push_hiding(to: &mut Vec<u8>, model: &Model, number: u32) -> Result<(), A
 /// Appends the names of action types, with commas between.
 fn push_set(to: &mut Vec<u8>, model: &Model, set: &[u32]) -> Result<(), AllocError>
     requires { All (λ a. a < length model.now.actions) set.now }
-    ensures { OnOk result (to.new.items ≡ to.old.items ++ set_text model.now set.now) }
+    ensures text { OnOk result (to.new.items ≡ to.old.items ++ set_text model.now set.now) }
+    ensures kept { OnErr result (StartsWith to.new.items to.old.items) }
 {
     let Some((first, others)) = set.split_first() else {
         return Ok(());

@@ -12,6 +12,3 @@ pub use frac::{Frac, RateOverflow};
 pub use rate::{Rate, RateFault};
 pub use weighing::weights;
 pub use weight_list::{WeightFault, Weights, Words64};
-
-#[cfg(test)]
-mod tests;

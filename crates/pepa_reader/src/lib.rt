@@ -37,6 +37,3 @@ pub use terminal::Terminal;
 pub use trees::{
     FileTree, Indices, ProcessLine, ProcessLines, ProcessTree, RateLine, RateLines, RateTree,
 };
-
-#[cfg(test)]
-mod tests;

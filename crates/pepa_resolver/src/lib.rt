@@ -28,6 +28,3 @@ pub use checks::{NamesAndRates, RateList, check_names_and_rates};
 pub use file_structure::{StructuredFile, check_names_rates_and_structure};
 pub use named::NamedProcess;
 pub use names::Names;
-
-#[cfg(test)]
-mod tests;

@@ -7,9 +7,8 @@ use Rattle.pepa_rates.specs.declared.rate.RateFault.{RateFault}
 use Rattle.pepa_model.specs.Expression.{Expression, Const, Prefixed, Chosen, Definition, Defines}
 use Rattle.pepa_model.specs.Opened.{Opened, OpenPrefix, OpenChoice, OpenConst, Opens, parts}
 use Rattle.pepa_model.specs.Apparent.{Apparent, NoRate, apparent_rate, together, IsFine, HasFault}
-use Rattle.pepa_model.specs.Verdict.{HasRateFault}
 use Rattle.pepa_steps.specs.ApparentAnswers.{CanOpen}
-use Rattle.pepa_steps.specs.ActionRates.{rate_in, AllFine, HasFineRates, AreRatesOf, AnswersRates, IsRatesOfPrefix, AnswersChoice, rates_of_choice}
+use Rattle.pepa_steps.specs.ActionRates.{rate_in, AllFine, HasFineRates, HasLeastFault, AreRatesOf, AnswersRates, IsRatesOfPrefix, AnswersChoice, rates_of_choice}
 use Rattle.pepa_steps.specs.declared.action_rates.RatesEnd.{RatesEnd}
 use Rattle.pepa_steps.specs.declared.action_rates.RatesEnd.TheVariants.{Fault, Memory}
 use Rattle.pepa_steps.proofs.Faults.{all_append, whole_from_parts, first_in_front, first_in_back, first_at_last}
@@ -48,16 +47,16 @@ module _ (definitions : List Definition) where
   left_end e x y (Fault fault) is left o opens =
       let c = opens_choice definitions e x y is o opens in
       subst (λ (o : Opened). AnswersRates o (Err (Fault fault))) (sym c.whole)
-      (first_in_front HasFineRates HasRateFault fault (parts c.left ++ parts c.right) (OpenChoice c.left c.right ∷ [])
-      (first_in_front HasFineRates HasRateFault fault (parts c.left) (parts c.right) (left c.left c.opens_left)))
+      (first_in_front HasFineRates HasLeastFault fault (parts c.left ++ parts c.right) (OpenChoice c.left c.right ∷ [])
+      (first_in_front HasFineRates HasLeastFault fault (parts c.left) (parts c.right) (left c.left c.opens_left)))
   left_end e x y Memory is left o opens = tt
 
   pub right_end : (e x y : Expression) (rates : BTreeMap ℕ Rate) (end : RatesEnd) → e ≡ Chosen x y → Answers x (Ok rates) → Answers y (Err end) → Answers e (Err end)
   right_end e x y rates (Fault fault) is left right o opens =
       let c = opens_choice definitions e x y is o opens in
       subst (λ (o : Opened). AnswersRates o (Err (Fault fault))) (sym c.whole)
-      (first_in_front HasFineRates HasRateFault fault (parts c.left ++ parts c.right) (OpenChoice c.left c.right ∷ [])
-      (first_in_back HasFineRates HasRateFault fault (parts c.left) (parts c.right) (left c.left c.opens_left).0 (right c.right c.opens_right)))
+      (first_in_front HasFineRates HasLeastFault fault (parts c.left ++ parts c.right) (OpenChoice c.left c.right ∷ [])
+      (first_in_back HasFineRates HasLeastFault fault (parts c.left) (parts c.right) (left c.left c.opens_left).0 (right c.right c.opens_right)))
   right_end e x y rates Memory is left right o opens = tt
 
   same_rates : (p q : Opened) (l r : List (ℕ × Rate)) → AreRatesOf l p → AreRatesOf r q → (n : ℕ) → 0 < n → rates_of_choice l r n ≡ apparent_rate (OpenChoice p q) n
@@ -85,12 +84,12 @@ module _ (definitions : List Definition) where
   joined p q l r (Err (Fault fault)) left right both =
       let same = same_rates p q l.entries r.entries left.1 right.1 in
       let positive = faulty_positive (rates_of_choice l.entries r.entries) fault (no_tau l.entries r.entries left.1.no_tau right.1.no_tau) both.action both.faulty in
-      first_at_last HasFineRates HasRateFault fault (parts p ++ parts q) (OpenChoice p q) (all_append HasFineRates (parts p) (parts q) left.0 right.0)
+      first_at_last HasFineRates HasLeastFault fault (parts p ++ parts q) (OpenChoice p q) (all_append HasFineRates (parts p) (parts q) left.0 right.0)
       (record {
         action = both.action;
-        positive = positive;
+        counts = positive;
         faulty = subst (λ (x : Apparent). HasFault x fault) (same both.action positive) both.faulty;
-        least = λ other above less. subst IsFine (same other above) (both.least other less);
+        least = λ other above less. subst IsFine (same other above) (both.least other (omega arith) less);
       })
   joined p q l r (Err Memory) left right both = tt
 
@@ -104,7 +103,7 @@ module _ (definitions : List Definition) where
   above : (c : ℕ) (p : Opened) (result : Result (BTreeMap ℕ Rate) RatesEnd) → AnswersRates p result → AnswersRates (OpenConst c p) result
   above c p (Ok rates) h =
       (all_append HasFineRates (parts p) (OpenConst c p ∷ []) h.0 (whole_from_parts HasFineRates p h.0, tt), record { each = h.1.each; no_tau = h.1.no_tau })
-  above c p (Err (Fault fault)) h = first_in_front HasFineRates HasRateFault fault (parts p) (OpenConst c p ∷ []) h
+  above c p (Err (Fault fault)) h = first_in_front HasFineRates HasLeastFault fault (parts p) (OpenConst c p ∷ []) h
   above c p (Err Memory) h = tt
 
   pub const_answers : (e : Expression) (c : ℕ) (body : Expression) (result : Result (BTreeMap ℕ Rate) RatesEnd) → e ≡ Const c → Defines definitions c body → Answers body result → Answers e result

@@ -34,7 +34,8 @@ module _ (left right : List (ℕ × Rate)) where
   other_order (Ok rates) h = (h.0, λ action. h.1 action ∙ same action)
   other_order (Err (Fault fault)) h = record {
     action = h.action;
+    counts = h.counts;
     faulty = subst (λ (x : Apparent). HasFault x fault) (same h.action) h.faulty;
-    least = λ other less. subst IsFine (same other) (h.least other less);
+    least = λ other counts less. subst IsFine (same other) (h.least other counts less);
   }
   other_order (Err Memory) h = tt

@@ -1,7 +1,7 @@
 -- The moves of an opened sequential component as a state's.
 use Rattle.std.proofs.Common.{◌≡◌, List, [], ◌∷◌, map, inl, inr, refl, sym, ap, subst, ◌∙◌}
 use Rattle.std.specs.List.{AllZip}
-use Rattle.pepa_model.specs.Expression.{LeafOf, Definition}
+use Rattle.pepa_model.specs.Expression.{Definition}
 use Rattle.pepa_model.specs.Derivation.{Derivation, Transition, InDerivationOrder, Among}
 use Rattle.pepa_model.specs.Derivation as leaf
 use Rattle.pepa_model.specs.Opened.{Opened, Opens, moves}
@@ -58,7 +58,7 @@ module _ (R : Derivation → Transition → Type 0) where
 
 module _ (definitions : List Definition) where
   abbrev LeafConcludes : Opened → Derivation → Transition → Type 0
-  LeafConcludes o d t = leaf.Concludes definitions d (LeafOf (closed o)) t
+  LeafConcludes o d t = leaf.Concludes definitions d (closed o) t
 
   pub leaf_moves : (o : Opened) → Opens definitions (closed o) o → DerivedMoves definitions (LeafOpen o)
   leaf_moves o opens = record {
@@ -69,7 +69,7 @@ module _ (definitions : List Definition) where
     ascends = zipped_ascends (LeafConcludes o) list.derivations (moves o) list.conclusions list.in_order;
   }
     where
-      list : leaf.IsTransitionList definitions (LeafOf (closed o)) (moves o)
+      list : leaf.IsTransitionList definitions (closed o) (moves o)
       list = leaf_lists.transition_list definitions (closed o) o opens
 
       of_found : (p : Derived) → IsZipped (LeafConcludes o) p list.derivations → Concludes definitions p.derivation (AtLeaf (closed o)) p.transition

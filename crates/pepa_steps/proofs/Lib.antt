@@ -1,3 +1,4 @@
+pub mod Alikes
 pub mod Opening
 pub mod Faults
 pub mod ApparentRates
@@ -23,13 +24,15 @@ pub mod LeafLists
 pub mod CoopLists
 pub mod StateLists
 pub mod WithoutTau
-pub mod TakenSteps
-pub mod JointLists
 pub mod NodeLists
-pub mod CoopStates
-pub mod CooperationParts
+pub mod TakenEntries
+pub mod CombinedLists
+pub mod KeptLeaves
 pub mod LeafParts
+pub mod Listed
 pub mod StateParts
-pub mod TermParts
-pub mod TermSteps
+pub mod CoopStates
+pub mod Loads
+pub mod EndLists
+pub mod Aims
 pub mod TypeSets

@@ -1,5 +1,5 @@
 -- Lists of steps: what is kept, joined and turned into another of each.
-use Rattle.std.proofs.Common.{◌≡◌, zero, suc, Bool, true, false, cond, List, [], ◌∷◌, ◌++◌, map, filter, flat_map, refl, sym, ap, subst, ◌∙◌, arith, inl, inr}
+use Rattle.std.proofs.Common.{◌≡◌, ℕ, ◌+◌, ◌<◌, take, drop, get_or, set, length, zero, suc, Bool, true, false, cond, List, [], ◌∷◌, ◌++◌, map, filter, flat_map, refl, sym, ap, subst, ◌∙◌, arith, inl, inr}
 use Rattle.std.specs.List.{AllByRecursion, Contains}
 use Rattle.std.proofs.lemmas.List.{map-append}
 use Rattle.pepa_model.specs.Derivation.{Among}
@@ -68,3 +68,29 @@ module _ {X : Type 0} (P : X → Type 0) where
 pub all_same : {X : Type 0} (P Q : X → Type 0) → ((x : X) → P x → Q x) → (xs : List X) → AllByRecursion P xs → AllByRecursion Q xs
 all_same P Q f [] h = tt
 all_same P Q f (x ∷ xs) h = (f x h.0, all_same P Q f xs h.1)
+
+pub all_filter : {X : Type 0} (P : X → Type 0) (test : X → Bool) (xs : List X) → AllByRecursion P xs → AllByRecursion P (filter test xs)
+all_filter P test [] h = tt
+all_filter P test (x ∷ xs) h = of_test (test x) (all_filter P test xs h.1)
+  where
+    of_test : (b : Bool) → AllByRecursion P (filter test xs) → AllByRecursion P (cond b (x ∷ filter test xs) (filter test xs))
+    of_test true rest = (h.0, rest)
+    of_test false rest = rest
+
+pub all_map : {X Y : Type 0} (P : Y → Type 0) (f : X → Y) (xs : List X) → AllByRecursion (λ x. P (f x)) xs → AllByRecursion P (map f xs)
+all_map P f [] h = tt
+all_map P f (x ∷ xs) h = (h.0, all_map P f xs h.1)
+
+-- one more element of a list is turned into another, in its place
+turned_at : {X : Type 0} (f : X → X) (xs : List X) (i : ℕ) (d y : X) → i < length xs → y ≡ f (get_or (map f (take i xs) ++ drop i xs) i d)
+    → set (map f (take i xs) ++ drop i xs) i y ≡ map f (take (i + 1) xs) ++ drop (i + 1) xs
+turned_at f [] i d y lt is = absurd (omega (arith, lt))
+turned_at f (x ∷ xs) zero d y lt is = ap (λ z. z ∷ xs) is
+turned_at f (x ∷ xs) (suc i) d y lt is =
+    let one : suc i + 1 ≡ suc (i + 1) = omega arith in
+    ap (λ l. f x ∷ l) (turned_at f xs i d y (omega (arith, lt)) is) ∙ ap (λ (n : ℕ). map f (take n (x ∷ xs)) ++ drop n (x ∷ xs)) (sym one)
+
+pub turned : {X : Type 0} (f : X → X) (xs items : List X) (i : ℕ) (d y : X) → i < length xs → items ≡ map f (take i xs) ++ drop i xs → y ≡ f (get_or items i d)
+    → set items i y ≡ map f (take (i + 1) xs) ++ drop (i + 1) xs
+turned f xs items i d y lt are is =
+    ap (λ l. set l i y) are ∙ turned_at f xs i d y lt (is ∙ ap (λ l. f (get_or l i d)) are)

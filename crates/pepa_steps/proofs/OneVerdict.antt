@@ -13,7 +13,7 @@ use Rattle.pepa_steps.specs.StateVerdict.{HasFineRates, IsFinePart, PartFault, O
 use Rattle.pepa_steps.proofs.OneState.{one_tree}
 
 rates_not_fine : (p : OpenState) (f : RateFault) → HasRateFault p f → HasFineRates p → ⊥
-rates_not_fine p f h k = faulty_not_fine (apparent_in p h.action) f h.faulty (k h.action h.positive)
+rates_not_fine p f h k = faulty_not_fine (apparent_in p h.action) f h.faulty (k h.action h.counts)
 
 pub part_not_fine : (p : OpenState) (f : PartFault) → HasPartFault p f → IsFinePart p → ⊥
 part_not_fine p (OfRates f) h k = rates_not_fine p f h k.rates
@@ -25,8 +25,8 @@ same_rate_fault p f g h k = of_cases (cases_order h.action k.action)
   where
     of_cases : (h.action ≡ k.action) ⊎ ((h.action < k.action) ⊎ (k.action < h.action)) → f ≡ g
     of_cases (inl e) = same_fault (apparent_in p h.action) f g h.faulty (subst (λ (n : ℕ). HasFault (apparent_in p n) g) (sym e) k.faulty)
-    of_cases (inr (inl lt)) = absurd (faulty_not_fine (apparent_in p h.action) f h.faulty (k.least h.action h.positive lt))
-    of_cases (inr (inr gt)) = absurd (faulty_not_fine (apparent_in p k.action) g k.faulty (h.least k.action k.positive gt))
+    of_cases (inr (inl lt)) = absurd (faulty_not_fine (apparent_in p h.action) f h.faulty (k.least h.action h.counts lt))
+    of_cases (inr (inr gt)) = absurd (faulty_not_fine (apparent_in p k.action) g k.faulty (h.least k.action k.counts gt))
 
 pub same_part_fault : (p : OpenState) (f g : PartFault) → HasPartFault p f → HasPartFault p g → f ≡ g
 same_part_fault p (OfRates f) (OfRates g) h k = ap OfRates (same_rate_fault p f g h k)

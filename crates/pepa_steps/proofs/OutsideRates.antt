@@ -104,7 +104,8 @@ module _ (types : List ℕ) where
     of_both (Ok found) h = (h.0, λ action. h.1 action ∙ same_rates action)
     of_both (Err (Fault fault)) h = record {
       action = h.action;
+      counts = h.counts;
       faulty = subst (λ (x : Apparent). HasFault x fault) (same_rates h.action) h.faulty;
-      least = λ other less. subst IsFine (same_rates other) (h.least other less);
+      least = λ other counts less. subst IsFine (same_rates other) (h.least other counts less);
     }
     of_both (Err Memory) h = tt

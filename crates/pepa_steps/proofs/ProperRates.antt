@@ -1,6 +1,7 @@
 -- The rates in the opened states of a model are fractions of the program.
 use Rattle.std.proofs.Common.{◌≡◌, ℕ, zero, suc, Bool, List, [], ◌∷◌, ◌++◌, flat_map, Some, slice_get, get_or, refl, sym, subst}
 use Rattle.std.specs.List.{AllByRecursion}
+use Rattle.std.proofs.lemmas.Option.{get_or_from_slice_get}
 use Rattle.pepa_rates.specs.Fraction.{IsProper}
 use Rattle.pepa_rates.specs.Sum.{fraction_of}
 use Rattle.pepa_rates.specs.declared.rate.Rate.{Rate}
@@ -11,11 +12,10 @@ use Rattle.pepa_model.specs.Spelling.{IsWrittenRate, HasWrittenRates, HasWritten
 use Rattle.pepa_model.specs.Leaves.{each_once, same_expression, followers, components, components_defined, sequential_constants, leaves_of}
 use Rattle.pepa_model.specs.PepaModel.{PepaModel, IsModel}
 use Rattle.pepa_model.specs.Terms.{TermNode, LeafNode, CoopNode, HideNode}
-use Rattle.pepa_steps.specs.States.{node_state}
+use Rattle.pepa_steps.specs.States.{State, AtLeaf, Cooperating, Hiding, NodeStandsFor}
 use Rattle.pepa_steps.specs.OpenStates.{OpenState, LeafOpen, CoopOpen, HideOpen, OpensState}
 use Rattle.pepa_steps.proofs.Faults.{all_append}
-use Rattle.pepa_steps.proofs.CooperationParts.{all_filter}
-use Rattle.pepa_steps.proofs.NodeLists.{all_flat_map}
+use Rattle.pepa_steps.proofs.NodeLists.{all_filter, all_flat_map}
 
 -- the rates of the activities are fractions of the program
 abbrev pub HasProperPrefixes : Opened → Type 0
@@ -75,12 +75,13 @@ leaves_written definitions system h k =
     (all_append HasWrittenRates constants (bodies ++ components system) (constants_written 0 definitions)
     (all_append HasWrittenRates bodies (components system) (all_flat_map HasWrittenRates HasWrittenDefinition components_defined defined_written definitions h) (components_written system k)))
 
-leaf_written : (m : PepaModel) → IsModel m → (number : ℕ) → HasWrittenRates (get_or m.leaves number (Const 0))
-leaf_written m sound number =
-    or_default HasWrittenRates m.leaves (Const 0)
+leaf_written : (m : PepaModel) → IsModel m → (number : ℕ) (e : Expression) → slice_get m.leaves number ≡ Some e → HasWrittenRates e
+leaf_written m sound number e is =
+    subst HasWrittenRates (get_or_from_slice_get m.leaves number e (Const 0) is)
+    (or_default HasWrittenRates m.leaves (Const 0)
     (subst (AllByRecursion HasWrittenRates) (sym sound.numbered.leaves_by_place)
     (leaves_written m.bodies m.system (all_from_slice HasWrittenDefinition m.bodies sound.spelled.bodies) sound.spelled.system))
-    tt number
+    tt number)
 
 -- ---- opened leaves and states
 
@@ -96,8 +97,14 @@ module _ (m : PepaModel) (sound : IsModel m) where
       (proper_opened x p both.0 opens_x, proper_opened y q both.1 opens_y)
   proper_opened e (OpenConst c p) h (is, (body, defined, opens)) = proper_opened body p (sound.spelled.bodies c (Sequentially body) defined) opens
 
-  pub proper_state : (x : TermNode) (tree : OpenState) → OpensState m.bodies (node_state m x) tree → HasProperRates tree
-  proper_state (LeafNode number) (LeafOpen o) opens = proper_opened (get_or m.leaves number (Const 0)) o (leaf_written m sound number) opens
-  proper_state (CoopNode x y set) (CoopOpen s t other) (opens_s, opens_t, same) = (proper_state x s opens_s, proper_state y t opens_t)
-  proper_state (HideNode x set) (HideOpen s other) (opens_s, same) = proper_state x s opens_s
-  proper_state x tree opens = absurd opens
+  pub proper_state : (state : State) (x : TermNode) (tree : OpenState) → NodeStandsFor m state x → OpensState m.bodies state tree → HasProperRates tree
+  proper_state (AtLeaf e) (LeafNode number) (LeafOpen o) stands opens = proper_opened e o (leaf_written m sound number e stands) opens
+  proper_state (Cooperating p q set) (CoopNode x y number) (CoopOpen s t other) (of_x, of_y, is) (opens_s, opens_t, same) = (proper_state p x s of_x opens_s, proper_state q y t of_y opens_t)
+  proper_state (Hiding p set) (HideNode x number) (HideOpen s other) (of_x, is) (opens_s, same) = proper_state p x s of_x opens_s
+  proper_state (AtLeaf e) (LeafNode number) (CoopOpen s t other) stands opens = absurd opens
+  proper_state (AtLeaf e) (LeafNode number) (HideOpen s other) stands opens = absurd opens
+  proper_state (Cooperating p q set) (CoopNode x y number) (LeafOpen o) stands opens = absurd opens
+  proper_state (Cooperating p q set) (CoopNode x y number) (HideOpen s other) stands opens = absurd opens
+  proper_state (Hiding p set) (HideNode x number) (LeafOpen o) stands opens = absurd opens
+  proper_state (Hiding p set) (HideNode x number) (CoopOpen s t other) stands opens = absurd opens
+  proper_state state x tree stands opens = absurd stands

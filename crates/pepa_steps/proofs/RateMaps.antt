@@ -12,7 +12,8 @@ use Rattle.std.proofs.lemmas.Map.Keys.{sorted_head, sorted_tail}
 use Rattle.pepa_rates.specs.declared.rate.Rate.{Rate}
 use Rattle.pepa_rates.specs.declared.rate.RateFault.{RateFault}
 use Rattle.pepa_model.specs.Apparent.{Apparent, NoRate, Rated, Undefined, together, IsFine, HasFault}
-use Rattle.pepa_steps.specs.ActionRates.{rate_in, AllFine, AddsRate, IsLeastFault, rates_of_choice, AnswersAddition, AnswersChoice}
+use Rattle.pepa_model.specs.Verdict.{IsLeastFault}
+use Rattle.pepa_steps.specs.ActionRates.{rate_in, AllFine, AddsRate, rates_of_choice, AnswersAddition, AnswersChoice}
 use Rattle.pepa_steps.specs.declared.action_rates.RatesEnd.{RatesEnd}
 use Rattle.pepa_steps.specs.declared.action_rates.RatesEnd.TheVariants.{Fault, Memory}
 use Rattle.pepa_steps.specs.ApparentAnswers.{apparent_of}
@@ -107,11 +108,12 @@ module _ (left right all : List (ℕ × Rate)) (action : ℕ) (rate : Rate) (res
       fine a (inr (inr gt)) = subst IsFine (sym (adds.elsewhere a (λ e. omega (arith, e)))) (h.fine a)
 
   -- an entry whose sum has a fault is the least one
-  pub least_fault : (fault : RateFault) → LoopKeeps left right all ((action, rate) ∷ rest) → HasFault (together (rate_in all action) (Rated rate)) fault → IsLeastFault (rates_of_choice left right) fault
+  pub least_fault : (fault : RateFault) → LoopKeeps left right all ((action, rate) ∷ rest) → HasFault (together (rate_in all action) (Rated rate)) fault → IsLeastFault (rates_of_choice left right) 0 fault
   least_fault fault h faulty = record {
     action = action;
+    counts = omega arith;
     faulty = subst (λ (x : Apparent). HasFault x fault) own faulty;
-    least = λ other lt. subst IsFine (lesser other lt) (h.fine other);
+    least = λ other counts lt. subst IsFine (lesser other lt) (h.fine other);
   }
     where
       own : together (rate_in all action) (Rated rate) ≡ rates_of_choice left right action

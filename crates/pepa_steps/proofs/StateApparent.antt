@@ -1,16 +1,16 @@
 -- The apparent rate of one action, from a state's parts.
-use Rattle.std.proofs.Common.{◌≡◌, ℕ, Bool, true, false, List, [], ◌∷◌, ◌++◌, map, Option, Some, slice_get, slice_index_or, if◌then◌else◌, Result, Ok, Err, sym, ap, subst, ◌∙◌}
+use Rattle.std.proofs.Common.{◌≡◌, ℕ, Bool, true, false, List, [], ◌∷◌, ◌++◌, map, Option, None, Some, slice_get, slice_index_or, if◌then◌else◌, Result, Ok, Err, refl, sym, ap, subst, ◌∙◌}
 use Rattle.std.proofs.lemmas.List.{map-append}
 use Rattle.std.proofs.lemmas.Option.{get_or_from_slice_get}
 use Rattle.pepa_rates.specs.declared.rate.Rate.{Rate}
 use Rattle.pepa_rates.specs.declared.rate.RateFault.{RateFault}
-use Rattle.pepa_model.specs.Expression.{Expression, Const}
+use Rattle.pepa_model.specs.Expression.{Expression}
 use Rattle.pepa_model.specs.Opened.{Opened, Opens, parts}
-use Rattle.pepa_model.specs.Apparent.{Apparent, together, IsFine, HasFault}
+use Rattle.pepa_model.specs.Apparent.{Apparent, NoRate, together, IsFine, HasFault}
 use Rattle.pepa_model.specs.Verdict.{IsFirstFault}
 use Rattle.pepa_model.specs.PepaModel.{PepaModel}
 use Rattle.pepa_model.specs.Terms.{TermNode, LeafNode, CoopNode, HideNode}
-use Rattle.pepa_steps.specs.States.{has, node_state}
+use Rattle.pepa_steps.specs.States.{State, AtLeaf, Cooperating, Hiding, has, NodeStandsFor}
 use Rattle.pepa_steps.specs.OpenStates.{OpenState, LeafOpen, CoopOpen, HideOpen, OpensState, parts_in, apparent_in, jointly}
 use Rattle.pepa_steps.specs.ApparentAnswers.{apparent_of, AnswersOpened}
 use Rattle.pepa_steps.specs.StateRates.{AnswersTree, IsOfCooperation, IsApparentAnswer}
@@ -89,56 +89,86 @@ module _ (action : ℕ) where
   -- ---- the nodes of a model
 
   module _ (m : PepaModel) where
+    -- the answer is that of each state that the term stands for
     abbrev pub Answers : TermNode → Result (Option Rate) RateFault → Type 0
-    Answers node result = (tree : OpenState) → OpensState m.bodies (node_state m node) tree → AnswersTree tree action result
+    Answers node result = (state : State) (tree : OpenState) → NodeStandsFor m state node → OpensState m.bodies state tree → AnswersTree tree action result
 
     at_leaf : (number : ℕ) (e : Expression) (result : Result (Option Rate) RateFault) → slice_get m.leaves number ≡ Some e
         → ((o : Opened) → Opens m.bodies e o → AnswersOpened o action result) → Answers (LeafNode number) result
-    at_leaf number e result is h (LeafOpen o) opens =
-        of_opened o result (h o (subst (λ (x : Expression). Opens m.bodies x o) (get_or_from_slice_get m.leaves number e (Const 0) is) opens))
-    at_leaf number e result is h tree opens = absurd opens
+    at_leaf number e result is h (AtLeaf f) (LeafOpen o) stands opens =
+        let same : f ≡ e = cc (stands, is) in
+        of_opened o result (h o (subst (λ (x : Expression). Opens m.bodies x o) same opens))
+    at_leaf number e result is h (AtLeaf f) (CoopOpen s t other) stands opens = absurd opens
+    at_leaf number e result is h (AtLeaf f) (HideOpen s other) stands opens = absurd opens
+    at_leaf number e result is h state tree stands opens = absurd stands
 
     pub leaf_answers : (node : TermNode) (number : ℕ) (e : Expression) (result : Result (Option Rate) RateFault) → node ≡ LeafNode number → slice_get m.leaves number ≡ Some e
         → ((o : Opened) → Opens m.bodies e o → AnswersOpened o action result) → Answers node result
     leaf_answers node number e result is at h = subst (λ (n : TermNode). Answers n result) (sym is) (at_leaf number e result at h)
 
     -- what holds of the trees of both sides holds of the tree
-    on_sides : (x y : TermNode) (set : ℕ) (result : Result (Option Rate) RateFault)
-        → ((s t : OpenState) → OpensState m.bodies (node_state m x) s → OpensState m.bodies (node_state m y) t → AnswersTree (CoopOpen s t (slice_index_or m.sets set [])) action result)
-        → Answers (CoopNode x y set) result
-    on_sides x y set result h (CoopOpen s t other) (opens_x, opens_y, same) =
-        subst (λ (o : List ℕ). AnswersTree (CoopOpen s t o) action result) (sym same) (h s t opens_x opens_y)
-    on_sides x y set result h tree opens = absurd opens
+    on_sides : (x y : TermNode) (number : ℕ) (result : Result (Option Rate) RateFault)
+        → ((p q : State) (s t : OpenState) (set : List ℕ) → NodeStandsFor m p x → NodeStandsFor m q y → OpensState m.bodies p s → OpensState m.bodies q t → slice_get m.sets number ≡ Some set
+        → AnswersTree (CoopOpen s t set) action result)
+        → Answers (CoopNode x y number) result
+    on_sides x y number result h (Cooperating p q set) (CoopOpen s t other) (of_x, of_y, is) (opens_x, opens_y, same) =
+        subst (λ (o : List ℕ). AnswersTree (CoopOpen s t o) action result) (sym same) (h p q s t set of_x of_y opens_x opens_y is)
+    on_sides x y number result h (Cooperating p q set) (LeafOpen o) stands opens = absurd opens
+    on_sides x y number result h (Cooperating p q set) (HideOpen s other) stands opens = absurd opens
+    on_sides x y number result h state tree stands opens = absurd stands
 
-    on_inner : (x : TermNode) (set : ℕ) (result : Result (Option Rate) RateFault)
-        → ((s : OpenState) → OpensState m.bodies (node_state m x) s → AnswersTree (HideOpen s (slice_index_or m.sets set [])) action result) → Answers (HideNode x set) result
-    on_inner x set result h (HideOpen s other) (opens, same) = subst (λ (o : List ℕ). AnswersTree (HideOpen s o) action result) (sym same) (h s opens)
-    on_inner x set result h tree opens = absurd opens
+    on_inner : (x : TermNode) (number : ℕ) (result : Result (Option Rate) RateFault)
+        → ((p : State) (s : OpenState) (set : List ℕ) → NodeStandsFor m p x → OpensState m.bodies p s → slice_get m.sets number ≡ Some set → AnswersTree (HideOpen s set) action result)
+        → Answers (HideNode x number) result
+    on_inner x number result h (Hiding p set) (HideOpen s other) (of_x, is) (opens, same) =
+        subst (λ (o : List ℕ). AnswersTree (HideOpen s o) action result) (sym same) (h p s set of_x opens is)
+    on_inner x number result h (Hiding p set) (LeafOpen o) stands opens = absurd opens
+    on_inner x number result h (Hiding p set) (CoopOpen s t other) stands opens = absurd opens
+    on_inner x number result h state tree stands opens = absurd stands
 
     pub left_fault : (node x y : TermNode) (set : ℕ) (fault : RateFault) → node ≡ CoopNode x y set → Answers x (Err fault) → Answers node (Err fault)
     left_fault node x y set fault is left =
         subst (λ (n : TermNode). Answers n (Err fault)) (sym is)
-        (on_sides x y set (Err fault) (λ s t opens_x opens_y. of_left s t (slice_index_or m.sets set []) fault (left s opens_x)))
+        (on_sides x y set (Err fault) (λ p q s t types of_x of_y opens_x opens_y at. of_left s t types fault (left p s of_x opens_x)))
 
     pub right_fault : (node x y : TermNode) (set : ℕ) (rate : Option Rate) (fault : RateFault) → node ≡ CoopNode x y set → Answers x (Ok rate) → Answers y (Err fault) → Answers node (Err fault)
     right_fault node x y set rate fault is left right =
         subst (λ (n : TermNode). Answers n (Err fault)) (sym is)
-        (on_sides x y set (Err fault) (λ s t opens_x opens_y. of_right s t (slice_index_or m.sets set []) rate fault (left s opens_x) (right t opens_y)))
+        (on_sides x y set (Err fault) (λ p q s t types of_x of_y opens_x opens_y at. of_right s t types rate fault (left p s of_x opens_x) (right q t of_y opens_y)))
+
+    -- the types that the program has of a set
+    types_are : (number : ℕ) (types set : List ℕ) → types ≡ slice_index_or m.sets number [] → slice_get m.sets number ≡ Some set → types ≡ set
+    types_are number types set is at = is ∙ get_or_from_slice_get m.sets number set [] at
 
     pub coop_answers : (node x y : TermNode) (set : ℕ) (types : List ℕ) (l r : Option Rate) (result : Result (Option Rate) RateFault) → node ≡ CoopNode x y set
         → types ≡ slice_index_or m.sets set [] → Answers x (Ok l) → Answers y (Ok r) → IsOfCooperation (has types action) l r result → Answers node result
-    coop_answers node x y set types l r result is types_are left right both =
+    coop_answers node x y set types l r result is are left right both =
         subst (λ (n : TermNode). Answers n result) (sym is)
-        (on_sides x y set result (λ s t opens_x opens_y. of_sides s t (slice_index_or m.sets set []) l r result (left s opens_x) (right t opens_y)
-        (subst (λ (set : List ℕ). IsOfCooperation (has set action) l r result) types_are both)))
+        (on_sides x y set result (λ p q s t own of_x of_y opens_x opens_y at. of_sides s t own l r result (left p s of_x opens_x) (right q t of_y opens_y)
+        (subst (λ (set : List ℕ). IsOfCooperation (has set action) l r result) (types_are set types own are at) both)))
 
     pub inner_fault : (node x : TermNode) (set : ℕ) (fault : RateFault) → node ≡ HideNode x set → Answers x (Err fault) → Answers node (Err fault)
     inner_fault node x set fault is inner =
         subst (λ (n : TermNode). Answers n (Err fault)) (sym is)
-        (on_inner x set (Err fault) (λ s opens. first_in_front Fine Faulty fault (parts_in s) (HideOpen s (slice_index_or m.sets set []) ∷ []) (inner s opens)))
+        (on_inner x set (Err fault) (λ p s types of_x opens at. first_in_front Fine Faulty fault (parts_in s) (HideOpen s types ∷ []) (inner p s of_x opens)))
+
+    pub hide_answers : (node x : TermNode) (set : ℕ) (types : List ℕ) (b : Bool) (rate shown : Option Rate) → node ≡ HideNode x set → types ≡ slice_index_or m.sets set [] → b ≡ has types action
+        → Answers x (Ok rate) → shown ≡ (if b then None else rate) → Answers node (Ok shown)
+    hide_answers node x set types b rate shown is are hides inner shown_is =
+        subst (λ (n : TermNode). Answers n (Ok shown)) (sym is)
+        (on_inner x set (Ok shown) (λ p s own of_x opens at.
+        let h = inner p s of_x opens in
+        let same : b ≡ has own action = hides ∙ ap (λ (l : List ℕ). has l action) (types_are set types own are at) in
+        let it = of_test b rate (apparent_in s action) h.1 (state_from_parts Fine s h.0) in
+        let value : apparent_in (HideOpen s own) action ≡ apparent_of shown = ap (λ (c : Bool). if c then NoRate else apparent_in s action) (sym same) ∙ it.0 ∙ ap apparent_of (sym shown_is) in
+        (all_append Fine (parts_in s) (HideOpen s own ∷ []) h.0 (subst IsFine (ap (λ (c : Bool). if c then NoRate else apparent_in s action) same) it.1, tt), value)))
+      where
+        of_test : (c : Bool) (rate : Option Rate) (x : Apparent) → x ≡ apparent_of rate → IsFine x → ((if c then NoRate else x) ≡ apparent_of (if c then None else rate)) × IsFine (if c then NoRate else x)
+        of_test true rate x e fine = (refl, tt)
+        of_test false rate x e fine = (e, fine)
 
     -- one tree tells the answer
-    pub of_tree : (node : TermNode) (result : Result (Option Rate) RateFault) → (tree : OpenState) → OpensState m.bodies (node_state m node) tree → Answers node result
-        → IsApparentAnswer m.bodies (node_state m node) action result
-    of_tree node (Ok rate) tree opens h = let answer = h tree opens in (tree, opens, answer.0, answer.1)
-    of_tree node (Err fault) tree opens h = (tree, opens, h tree opens)
+    pub of_tree : (node : TermNode) (result : Result (Option Rate) RateFault) → Answers node result → (state : State) (tree : OpenState) → NodeStandsFor m state node → OpensState m.bodies state tree
+        → IsApparentAnswer m.bodies state action result
+    of_tree node (Ok rate) h state tree stands opens = let answer = h state tree stands opens in (tree, opens, answer.0, answer.1)
+    of_tree node (Err fault) h state tree stands opens = (tree, opens, h state tree stands opens)

@@ -10,9 +10,9 @@ use Rattle.pepa_model.specs.Derivation.{Among, Transition}
 use Rattle.pepa_model.specs.Opened.{Opened, OpenPrefix, OpenChoice, OpenConst, moves}
 use Rattle.pepa_model.specs.Apparent.{Apparent, NoRate, Rated, together, apparent_rate}
 use Rattle.pepa_model.specs.PepaModel.{PepaModel, IsModel}
-use Rattle.pepa_model.specs.Terms.{IsTermOf, term_of}
+use Rattle.pepa_model.specs.Terms.{term_of}
 use Rattle.pepa_model.specs.declared.term.Term.{Term}
-use Rattle.pepa_steps.specs.States.{State, StateTransition, has, state_of}
+use Rattle.pepa_steps.specs.States.{State, StateTransition, has, StandsFor}
 use Rattle.pepa_steps.specs.OpenStates.{OpenState, LeafOpen, CoopOpen, HideOpen, OpensState, parts_in, jointly, apparent_in, closed_state, rate_of}
 use Rattle.pepa_steps.specs.OpenStates.{leaf_move, left_move, right_move, joint_move, hidden_move, moves_in}
 use Rattle.pepa_steps.specs.Rules.{IsTransitionList}
@@ -24,7 +24,7 @@ use Rattle.pepa_steps.proofs.NodeLists.{all_same}
 use Rattle.pepa_steps.proofs.OneState.{one_list, one_tree}
 use Rattle.pepa_steps.proofs.StateLists.{HasNoTau, transition_list}
 use Rattle.pepa_steps.proofs.WithoutTau.{state_without_tau}
-use Rattle.pepa_steps.proofs.StateParts.{whole_in}
+use Rattle.pepa_steps.proofs.StateOpens.{state_from_parts}
 use Rattle.pepa_steps.proofs.ApparentSums.{IsDefined, IsLowestRate, IsProperRate, lowest_positive, proper_defined, fine_proper, rate_of-positive}
 use Rattle.pepa_steps.proofs.ApparentSums.{together-lowest, together-none, jointly-lowest, in_all, both_sides}
 use Rattle.pepa_steps.proofs.RateSums.{HasPositive, ArePositive, sum-append, sum-map, sum-filter, sum-hidden}
@@ -184,7 +184,7 @@ moves_positive (HideOpen s set) h = map_positive (hidden_move set) (λ u. refl) 
 
 module _ (a : ℕ) (positive : 0 < a) where
   proper_rate : (tree : OpenState) → HasProperRates tree → AllByRecursion HasFineRates (parts_in tree) → IsProperRate (apparent_in tree a)
-  proper_rate tree h fine = fine_proper (apparent_in tree a) (whole_in HasFineRates tree fine a positive) (lowest_in tree h a)
+  proper_rate tree h fine = fine_proper (apparent_in tree a) (state_from_parts HasFineRates tree fine a positive) (lowest_in tree h a)
 
   sum_of_moves : (tree : OpenState) → HasProperRates tree → AllByRecursion HasFineRates (parts_in tree) → sum_of_rates a (moves_in tree) ≡ apparent_in tree a
   sum_of_moves (LeafOpen o) h fine = sum_of_leaf a o h
@@ -205,9 +205,9 @@ sum_of_list definitions state tree ts action positive opens none fine proper lis
     let same = one_list definitions state ts (moves_in tree) list (transition_list definitions state tree opens none rates) in
     ap (sum_of_rates action) same ∙ sum_of_moves action positive tree proper rates
 
-pub sums_of_rates : (m : PepaModel) (term : Term) (ts : List StateTransition) (action : ℕ) (rate : Apparent) → IsModel m → IsTermOf m term → IsWithoutFault m.bodies (state_of m term)
-    → IsTransitionList m.bodies (state_of m term) ts → 0 < action → IsApparentRate m.bodies (state_of m term) action rate → sum_of_rates action ts ≡ rate
-sums_of_rates m term ts action rate sound of_model (tree, opens, fine) list positive (other, opens_too, fine_too, is) =
-    let same = one_tree m.bodies (state_of m term) tree other opens opens_too in
-    sum_of_list m.bodies (state_of m term) tree ts action positive opens (state_without_tau m sound (term_of term) tree of_model opens) fine (proper_state m sound (term_of term) tree opens) list
+pub sums_of_rates : (m : PepaModel) (state : State) (term : Term) (ts : List StateTransition) (action : ℕ) (rate : Apparent) → IsModel m → StandsFor m state term → IsWithoutFault m.bodies state
+    → IsTransitionList m.bodies state ts → 0 < action → IsApparentRate m.bodies state action rate → sum_of_rates action ts ≡ rate
+sums_of_rates m state term ts action rate sound stands (tree, opens, fine) list positive (other, opens_too, fine_too, is) =
+    let same = one_tree m.bodies state tree other opens opens_too in
+    sum_of_list m.bodies state tree ts action positive opens (state_without_tau m sound state (term_of term) tree stands opens) fine (proper_state m sound state (term_of term) tree stands opens) list
     ∙ ap (λ (x : OpenState). apparent_in x action) same ∙ is

@@ -8,7 +8,7 @@ use Rattle.pepa_rates.specs.declared.rate.Rate.{Rate}
 use Rattle.pepa_rates.specs.declared.rate.RateFault.{RateFault}
 use Rattle.pepa_model.specs.Opened.{Opened, parts}
 use Rattle.pepa_model.specs.Apparent.{Apparent, NoRate, Rated, apparent_rate, together, IsFine, HasFault}
-use Rattle.pepa_model.specs.Verdict.{HasRateFault, IsFirstFault}
+use Rattle.pepa_model.specs.Verdict.{IsFirstFault, IsLeastFault}
 use Rattle.pepa_steps.specs.ApparentAnswers.{apparent_of}
 use Rattle.pepa_steps.specs.declared.action_rates.RatesEnd.{RatesEnd}
 use Rattle.pepa_steps.specs.declared.action_rates.RatesEnd.TheVariants.{Fault, Memory}
@@ -27,12 +27,6 @@ pub record AddsRate (old new : List (ℕ × Rate)) (action : ℕ) (rate : Rate) 
   pub elsewhere : (other : ℕ) → other ≢ action → rate_in new other ≡ rate_in old other
   pub fine : IsFine (rate_in new action)
 
--- the rates by action have this fault for an action, and none for a lesser one
-pub record IsLeastFault (rate : ℕ → Apparent) (fault : RateFault) : Type 0 where
-  pub action : ℕ
-  pub faulty : HasFault (rate action) fault
-  pub least : (other : ℕ) → other < action → IsFine (rate other)
-
 -- the rates of a choice, action by action
 abbrev pub rates_of_choice : List (ℕ × Rate) → List (ℕ × Rate) → ℕ → Apparent
 rates_of_choice left right action = together (rate_in left action) (rate_in right action)
@@ -40,6 +34,10 @@ rates_of_choice left right action = together (rate_in left action) (rate_in righ
 -- a part whose apparent rates are in order
 abbrev pub HasFineRates : Opened → Type 0
 HasFineRates part = (action : ℕ) → 0 < action → IsFine (apparent_rate part action)
+
+-- the fault of the least action from 1 up that has one
+abbrev pub HasLeastFault : Opened → RateFault → Type 0
+HasLeastFault part fault = IsLeastFault (apparent_rate part) 1 fault
 
 -- the entries are the apparent rates of the component, for actions from 1 up
 pub record AreRatesOf (entries : List (ℕ × Rate)) (whole : Opened) : Type 0 where
@@ -49,7 +47,7 @@ pub record AreRatesOf (entries : List (ℕ × Rate)) (whole : Opened) : Type 0 w
 -- the rates of a component without a fault, else its first fault
 abbrev pub AnswersRates : Opened → Result (BTreeMap ℕ Rate) RatesEnd → Type 0
 AnswersRates whole (Ok rates) = AllByRecursion HasFineRates (parts whole) × AreRatesOf rates.entries whole
-AnswersRates whole (Err (Fault fault)) = IsFirstFault HasFineRates HasRateFault (parts whole) fault
+AnswersRates whole (Err (Fault fault)) = IsFirstFault HasFineRates HasLeastFault (parts whole) fault
 AnswersRates whole (Err Memory) = Unit {0}
 
 -- the rates of a prefix: its own, unless it is `tau`
@@ -65,5 +63,5 @@ AnswersAddition old new action rate (Err Memory) = Unit {0}
 
 abbrev pub AnswersChoice : List (ℕ × Rate) → List (ℕ × Rate) → Result (BTreeMap ℕ Rate) RatesEnd → Type 0
 AnswersChoice left right (Ok rates) = AllFine rates.entries × ((action : ℕ) → rate_in rates.entries action ≡ rates_of_choice left right action)
-AnswersChoice left right (Err (Fault fault)) = IsLeastFault (rates_of_choice left right) fault
+AnswersChoice left right (Err (Fault fault)) = IsLeastFault (rates_of_choice left right) 0 fault
 AnswersChoice left right (Err Memory) = Unit {0}

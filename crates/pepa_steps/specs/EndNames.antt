@@ -2,8 +2,8 @@
 use Rattle.pepa_rates.specs.declared.rate.RateFault.TheVariants as fault
 use Rattle.pepa_steps.specs.declared.action_rates.RatesEnd.{RatesEnd}
 use Rattle.pepa_steps.specs.declared.action_rates.RatesEnd.TheVariants as rates
-use Rattle.pepa_steps.specs.declared.step_lists.JointEnd.{JointEnd}
-use Rattle.pepa_steps.specs.declared.step_lists.JointEnd.TheVariants as joint
+use Rattle.pepa_steps.specs.declared.combining.JointEnd.{JointEnd}
+use Rattle.pepa_steps.specs.declared.combining.JointEnd.TheVariants as joint
 use Rattle.pepa_steps.specs.declared.transitions.StepFault.TheVariants.{Mixed, Overflow}
 use Rattle.pepa_steps.specs.declared.transitions.StepsEnd.{StepsEnd}
 use Rattle.pepa_steps.specs.declared.transitions.StepsEnd.TheVariants.{Fault, Memory}

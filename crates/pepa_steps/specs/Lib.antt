@@ -1,3 +1,5 @@
+pub mod Moves
+pub mod Alike
 pub mod States
 pub mod OpenStates
 pub mod Rules
@@ -7,11 +9,14 @@ pub mod ApparentAnswers
 pub mod ActionRates
 pub mod StateRates
 pub mod CooperationRates
-pub mod StepNodes
-pub mod Partners
 pub mod StepsAnswers
-pub mod PartAnswers
 pub mod JointSteps
-pub mod LeafSteps
+pub mod Combined
+pub mod Hidings
+pub mod PartAnswers
+pub mod KeptRates
+pub mod Traces
+pub mod Sources
+pub mod ListAnswers
 pub mod EndNames
 pub mod WholeVerdict

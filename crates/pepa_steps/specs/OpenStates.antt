@@ -1,12 +1,13 @@
 -- States with the constants of their sequential components opened, and what is computed along these trees.
-use Rattle.std.specs.Prelude.{◌≡◌, ◌==◌, ℕ, not, if◌then◌else◌, bit_or, List, [], ◌∷◌, ◌++◌, map, filter, flat_map}
+use Rattle.std.specs.Prelude.{◌≡◌, ℕ, if◌then◌else◌, List, [], ◌∷◌, ◌++◌, map}
 use Rattle.pepa_rates.specs.declared.rate.Rate.{Rate}
 use Rattle.pepa_rates.specs.declared.rate.Rate.TheVariants.{Passive}
-use Rattle.pepa_rates.specs.Share.{least_of, share_of}
-use Rattle.pepa_model.specs.Expression.{Expression, Const, Prefixed, Chosen, WordTerm, LeafOf, Definition}
+use Rattle.pepa_rates.specs.Share.{least_of}
+use Rattle.pepa_model.specs.Expression.{Expression, Const, Prefixed, Chosen, Definition}
 use Rattle.pepa_model.specs.Derivation.{Transition}
 use Rattle.pepa_model.specs.Opened.{Opened, OpenPrefix, OpenChoice, OpenConst, Opens, parts, moves}
 use Rattle.pepa_model.specs.Apparent.{Apparent, NoRate, Rated, Undefined, together, apparent_rate}
+use Rattle.pepa_steps.specs.Moves.{carry, joined, hidden, cooperation}
 use Rattle.pepa_steps.specs.States.{State, AtLeaf, Cooperating, Hiding, has, StateTransition, state_transition}
 
 pub data OpenState : Type 0 where
@@ -48,27 +49,22 @@ apparent_in (HideOpen s set) a = if has set a then NoRate else apparent_in s a
 
 -- ---- transitions
 
--- what the transition of a leaf leads to
-abbrev pub follows : WordTerm → State
-follows (LeafOf e) = AtLeaf e
-
 abbrev pub leaf_move : Transition → StateTransition
-leaf_move t = state_transition t.action t.signals t.rate (follows t.target)
+leaf_move t = state_transition t.action t.signals t.rate (AtLeaf t.target)
 
 -- one side moves alone
 abbrev pub left_move : State → List ℕ → StateTransition → StateTransition
-left_move q set u = state_transition u.action u.signals u.rate (Cooperating u.target q set)
+left_move q set = carry (λ p. Cooperating p q set)
 
 abbrev pub right_move : State → List ℕ → StateTransition → StateTransition
-right_move p set v = state_transition v.action v.signals v.rate (Cooperating p v.target set)
+right_move p set = carry (λ q. Cooperating p q set)
 
--- both sides move together, where these are their apparent rates of the action; the signals are united
+-- both sides move together, where these are their apparent rates of the action
 abbrev pub joint_move : List ℕ → Rate → Rate → StateTransition → StateTransition → StateTransition
-joint_move set ra rb u v = state_transition u.action (bit_or u.signals v.signals) (share_of u.rate ra v.rate rb) (Cooperating u.target v.target set)
+joint_move set = joined (λ p q. Cooperating p q set)
 
--- a hidden type becomes `tau`, whose number is 0
 abbrev pub hidden_move : List ℕ → StateTransition → StateTransition
-hidden_move set u = state_transition (if has set u.action then 0 else u.action) u.signals u.rate (Hiding u.target set)
+hidden_move set = hidden (λ p. Hiding p set) set
 
 -- the expression that a component opened from, and the state
 abbrev pub closed : Opened → Expression
@@ -87,16 +83,10 @@ rate_of NoRate = Passive (record { num = 1; den = 1 })
 rate_of (Rated r) = r
 rate_of Undefined = Passive (record { num = 1; den = 1 })
 
--- those of both sides together, in the order of the left one, and then of the right one
-abbrev pub joint_moves : List ℕ → (ℕ → Rate) → (ℕ → Rate) → List StateTransition → List StateTransition → List StateTransition
-joint_moves set ra rb us vs =
-    flat_map (λ u. map (joint_move set (ra u.action) (rb u.action) u) (filter (λ v. u.action == v.action) vs)) (filter (λ u. has set u.action) us)
-
--- the transitions of a state: of a cooperation first those of the left side alone, then of the right side alone, then of both
+-- the transitions of a state
 abbrev pub moves_in : OpenState → List StateTransition
 moves_in (LeafOpen o) = map leaf_move (moves o)
 moves_in (CoopOpen s t set) =
-    (map (left_move (closed_state t) set) (filter (λ u. not (has set u.action)) (moves_in s))
-    ++ map (right_move (closed_state s) set) (filter (λ v. not (has set v.action)) (moves_in t)))
-    ++ joint_moves set (λ a. rate_of (apparent_in s a)) (λ a. rate_of (apparent_in t a)) (moves_in s) (moves_in t)
+    cooperation (λ p. Cooperating p (closed_state t) set) (λ q. Cooperating (closed_state s) q set) (λ p q. Cooperating p q set) set
+    (λ a. rate_of (apparent_in s a)) (λ a. rate_of (apparent_in t a)) (moves_in s) (moves_in t)
 moves_in (HideOpen s set) = map (hidden_move set) (moves_in s)

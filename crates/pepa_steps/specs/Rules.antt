@@ -3,7 +3,7 @@
 use Rattle.std.specs.Prelude.{◌≡◌, ℕ, true, false, ◌⊎◌, ⊤, List, [], ◌∷◌}
 use Rattle.std.specs.List.{AllByRecursion, AllZip}
 use Rattle.pepa_rates.specs.declared.rate.Rate.{Rate}
-use Rattle.pepa_model.specs.Expression.{LeafOf, Definition}
+use Rattle.pepa_model.specs.Expression.{Definition}
 use Rattle.pepa_model.specs.Derivation.{Derivation, Transition, Among}
 use Rattle.pepa_model.specs.Derivation as leaf
 use Rattle.pepa_model.specs.Apparent.{Rated}
@@ -26,7 +26,7 @@ HasApparent definitions state a rate = (tree : OpenState) × OpensState definiti
 -- both move together by a type in the set, at their share of the apparent rates; a hiding does what is hidden, by `tau` for a
 -- hidden type
 abbrev pub Concludes : List Definition → StateDerivation → State → StateTransition → Type 0
-Concludes definitions (OfLeaf d) (AtLeaf e) t = (u : Transition) × leaf.Concludes definitions d (LeafOf e) u × (t ≡ leaf_move u)
+Concludes definitions (OfLeaf d) (AtLeaf e) t = (u : Transition) × leaf.Concludes definitions d e u × (t ≡ leaf_move u)
 Concludes definitions (OnLeft d) (Cooperating p q set) t = (u : StateTransition) × Concludes definitions d p u × (has set u.action ≡ false) × (t ≡ left_move q set u)
 Concludes definitions (OnRight d) (Cooperating p q set) t = (v : StateTransition) × Concludes definitions d q v × (has set v.action ≡ false) × (t ≡ right_move p set v)
 Concludes definitions (OnBoth d e) (Cooperating p q set) t =

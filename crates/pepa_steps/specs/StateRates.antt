@@ -6,12 +6,12 @@ use Rattle.pepa_rates.specs.declared.rate.Rate.{Rate}
 use Rattle.pepa_rates.specs.declared.rate.RateFault.{RateFault}
 use Rattle.pepa_model.specs.Expression.{Definition}
 use Rattle.pepa_model.specs.Apparent.{Apparent, NoRate, together, IsFine, HasFault}
-use Rattle.pepa_model.specs.Verdict.{IsFirstFault}
+use Rattle.pepa_model.specs.Verdict.{IsFirstFault, IsLeastFault}
 use Rattle.pepa_steps.specs.States.{State, has}
 use Rattle.pepa_steps.specs.OpenStates.{OpenState, parts_in, apparent_in, jointly}
 use Rattle.pepa_steps.specs.StateVerdict.{IsApparentRate, IsApparentFault}
 use Rattle.pepa_steps.specs.ApparentAnswers.{apparent_of, IsTogether}
-use Rattle.pepa_steps.specs.ActionRates.{rate_in, AllFine, IsLeastFault}
+use Rattle.pepa_steps.specs.ActionRates.{rate_in, AllFine}
 use Rattle.pepa_steps.specs.declared.action_rates.RatesEnd.{RatesEnd}
 use Rattle.pepa_steps.specs.declared.action_rates.RatesEnd.TheVariants.{Fault, Memory}
 
@@ -51,5 +51,5 @@ rates_of_hiding types inner action = if has types action then NoRate else rate_i
 -- the entries are these rates, which are in order; else the fault of the least action that has one
 abbrev pub AnswersRatesBy : (ℕ → Apparent) → Result (BTreeMap ℕ Rate) RatesEnd → Type 0
 AnswersRatesBy rates (Ok found) = AllFine found.entries × ((action : ℕ) → rate_in found.entries action ≡ rates action)
-AnswersRatesBy rates (Err (Fault fault)) = IsLeastFault rates fault
+AnswersRatesBy rates (Err (Fault fault)) = IsLeastFault rates 0 fault
 AnswersRatesBy rates (Err Memory) = Unit {0}

@@ -6,7 +6,7 @@ use Rattle.pepa_rates.specs.Fraction.{InRange}
 use Rattle.pepa_rates.specs.Sum.{fraction_of}
 use Rattle.pepa_model.specs.Expression.{Definition}
 use Rattle.pepa_model.specs.Apparent.{Apparent, IsFine, HasFault}
-use Rattle.pepa_model.specs.Verdict.{IsFirstFault}
+use Rattle.pepa_model.specs.Verdict.{IsFirstFault, IsLeastFault}
 use Rattle.pepa_steps.specs.States.{State, StateTransition}
 use Rattle.pepa_steps.specs.OpenStates.{OpenState, OpensState, parts_in, apparent_in, moves_in}
 
@@ -45,12 +45,9 @@ pub data PartFault : Type 0 where
   OfLength : PartFault
   OfDerivation : PartFault
 
--- the fault of the least action that has one
-pub record HasRateFault (part : OpenState) (fault : RateFault) : Type 0 where
-  pub action : ℕ
-  pub positive : 0 < action
-  pub faulty : HasFault (apparent_in part action) fault
-  pub least : (other : ℕ) → 0 < other → other < action → IsFine (apparent_in part other)
+-- the fault of the least action from 1 up that has one
+abbrev pub HasRateFault : OpenState → RateFault → Type 0
+HasRateFault part fault = IsLeastFault (apparent_in part) 1 fault
 
 -- where the rates are in order, there may be too many derivations; and where there aren't, one may have a rate out of range
 abbrev pub HasPartFault : OpenState → PartFault → Type 0

@@ -58,7 +58,7 @@ fn prefix_rates(alloc: Global, action: u32, rate: &Rate) -> Result<BTreeMap<u32,
 }
 
 // The rates of a choice, of those of its operands. Fewer entries go into more, since addition doesn't mind the order.
-fn choice_rates(
+pub(crate) fn choice_rates(
     left: BTreeMap<u32, Rate>,
     right: BTreeMap<u32, Rate>,
 ) -> Result<BTreeMap<u32, Rate>, RatesEnd>

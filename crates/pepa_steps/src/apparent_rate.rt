@@ -1,10 +1,10 @@
 //! The apparent rate of one action type.
-ghost use Rattle.std.specs.Prelude.{◌≡◌, ◌<◌, Result, Option};
+ghost use Rattle.std.specs.Prelude.{◌≡◌, ◌<◌, if◌then◌else◌, Result, Option};
 ghost use Rattle.std.specs.List.Sorted.{IsStrictlyIncreasing};
 ghost use Rattle.pepa_model.specs.Expression.{expression_of};
 ghost use Rattle.pepa_model.specs.Opened.{Opened, Opens};
 ghost use Rattle.pepa_model.specs.Terms.{IsTermOf};
-ghost use Rattle.pepa_steps.specs.States.{has, state_of};
+ghost use Rattle.pepa_steps.specs.States.{State, StandsFor, has};
 ghost use Rattle.pepa_steps.specs.OpenStates.{OpenState, OpensState};
 ghost use Rattle.pepa_steps.specs.ApparentAnswers.{AnswersOpened, CanOpen, IsTogether};
 ghost use Rattle.pepa_steps.specs.StateRates.{IsApparentAnswer, AnswersTree, IsOfCooperation};
@@ -20,7 +20,7 @@ use pepa_rates::{Rate, RateFault};
 pub fn apparent(model: &Model, term: &Term, action: u32) -> Result<Option<Rate>, RateFault>
     requires of_model { IsTermOf model.now term.now }
     requires no_tau { 0 < action }
-    ensures { IsApparentAnswer model.now.bodies (state_of model.now term.now) action result }
+    ensures { (state : State) → StandsFor model.now state term.now → IsApparentAnswer model.now.bodies state action result }
 {
     model.is_sound();
     term_rate(model, term, action)
@@ -29,7 +29,8 @@ pub fn apparent(model: &Model, term: &Term, action: u32) -> Result<Option<Rate>,
 // The apparent rate of a term, from those of its parts.
 fn term_rate(model: &Model, term: &Term, action: u32) -> Result<Option<Rate>, RateFault>
     requires { IsTermOf model.now term.now }
-    ensures { (tree : OpenState) → OpensState model.now.bodies (state_of model.now term.now) tree → AnswersTree tree action result }
+    ensures { (state : State) (tree : OpenState) → StandsFor model.now state term.now
+        → OpensState model.now.bodies state tree → AnswersTree tree action result }
 {
     model.is_sound();
     match term {
@@ -41,8 +42,7 @@ fn term_rate(model: &Model, term: &Term, action: u32) -> Result<Option<Rate>, Ra
         }
         Term::Hide(inner, set) => {
             let inner = term_rate(model, inner, action)?;
-            let hidden = is_in(types_of(model, *set), action);
-            Ok(if hidden { None } else { inner })
+            Ok(rate_of_hiding(types_of(model, *set), action, inner))
         }
     }
 }
@@ -64,6 +64,14 @@ fn rate_of_cooperation(
         (Some(left), Some(right)) => Ok(Some(left.least(&right))),
         _ => Ok(None),
     }
+}
+
+// The apparent rate of a system that hides these types, of that of what it hides.
+fn rate_of_hiding(types: &[u32], action: u32, inner: Option<Rate>) -> Option<Rate>
+    requires ascends { IsStrictlyIncreasing types.now }
+    ensures { result ≡ (if has types.now action then None else inner) }
+{
+    if is_in(types, action) { None } else { inner }
 }
 
 // The apparent rate of a component that opens into a tree of at most this height.

@@ -3,9 +3,8 @@ ghost use Rattle.std.specs.Prelude.{◌≡◌, ℕ, ◌<◌, List};
 ghost use Rattle.pepa_model.specs.Expression.{Definition};
 ghost use Rattle.pepa_model.specs.Apparent.{Apparent};
 ghost use Rattle.pepa_model.specs.PepaModel.{PepaModel, IsModel};
-ghost use Rattle.pepa_model.specs.Terms.{IsTermOf};
 ghost use Rattle.pepa_model.specs.declared.term.Term.{Term};
-ghost use Rattle.pepa_steps.specs.States.{State, StateTransition, state_of};
+ghost use Rattle.pepa_steps.specs.States.{State, StateTransition, StandsFor};
 ghost use Rattle.pepa_steps.specs.Rules.{IsTransitionList};
 ghost use Rattle.pepa_steps.specs.StateVerdict.{PartFault, IsVerdict, IsWithoutFault, IsApparentRate};
 ghost use Rattle.pepa_steps.specs.SumLaw.{sum_of_rates};
@@ -24,12 +23,12 @@ pub fn one_verdict()
 /// A law: where no part of a state of a model has a fault, the rates of its transitions of each action type but `tau` have the
 /// exact sum that is its apparent rate of it, and it has none where it has no such transition.
 pub fn sums_of_rates()
-    ensures { (m : PepaModel) (term : Term) (ts : List StateTransition) (action : ℕ) (rate : Apparent)
+    ensures { (m : PepaModel) (state : State) (term : Term) (ts : List StateTransition) (action : ℕ) (rate : Apparent)
         → IsModel m
-        → IsTermOf m term
-        → IsWithoutFault m.bodies (state_of m term)
-        → IsTransitionList m.bodies (state_of m term) ts
+        → StandsFor m state term
+        → IsWithoutFault m.bodies state
+        → IsTransitionList m.bodies state ts
         → 0 < action
-        → IsApparentRate m.bodies (state_of m term) action rate
+        → IsApparentRate m.bodies state action rate
         → sum_of_rates action ts ≡ rate }
 {}

@@ -1,20 +1,18 @@
 //! The transitions of a term, and the verdict on it.
-ghost use Rattle.std.specs.Prelude.{◌≡◌, ◌<◌, IfOk, map, length, slice_index_or};
+ghost use Rattle.std.specs.Prelude.{◌≡◌, List, IfOk};
+ghost use Rattle.std.specs.List.{AllZip};
 ghost use Rattle.pepa_model.specs.Terms.{IsTermOf};
-ghost use Rattle.pepa_model.specs.Expression.{Const};
-ghost use Rattle.pepa_steps.specs.States.{AtLeaf, state_of};
-ghost use Rattle.pepa_steps.specs.OpenStates.{OpenState, OpensState};
+ghost use Rattle.pepa_steps.specs.States.{State, StateTransition, StandsFor, StepStandsFor};
+ghost use Rattle.pepa_steps.specs.Rules.{IsTransitionList};
 ghost use Rattle.pepa_steps.specs.StepsAnswers.{IsStepsAnswer};
-ghost use Rattle.pepa_steps.specs.LeafSteps.{step_of};
-ghost use Rattle.pepa_steps.specs.StepNodes.{step_nodes};
-ghost use Rattle.pepa_steps.specs.PartAnswers.{AnswersPart, AreNodesInRange};
+ghost use Rattle.pepa_steps.specs.Traces.{HasList};
 
-use crate::action_rates::{RatesEnd, component_rates};
-use crate::cooperation::{cooperation_part, hiding_part};
-use crate::parts::Part;
-use crate::sets::types_of;
-use crate::step_lists::JointEnd;
-use pepa_model::{Activity, MAX_HEIGHT, Model, Step, StepList, Term};
+use crate::action_rates::RatesEnd;
+use crate::buffers::Buffers;
+use crate::combining::JointEnd;
+use crate::loading::load;
+use crate::targets::target;
+use pepa_model::{Model, Step, StepList, Term};
 use pepa_rates::RateFault;
 use std::alloc::{AllocError, Global};
 
@@ -83,58 +81,33 @@ impl From<JointEnd> for StepsEnd {
 /// derivations; `Overflow`, if the rate of one isn't in range. `Memory` says only that memory ran out.
 pub fn steps(alloc: Global, model: &Model, term: &Term) -> Result<StepList, StepsEnd>
     requires { IsTermOf model.now term.now }
-    ensures { IsStepsAnswer model.now (state_of model.now term.now) result }
+    ensures { (state : State) → StandsFor model.now state term.now → IsStepsAnswer model.now state result }
 {
     model.is_sound();
-    let part = part_of(alloc, model, term)?;
-    Ok(StepList::from_vec(part.steps))
+    let mut buffers = Buffers::new(alloc);
+    load(alloc, model, term, &mut buffers)?;
+    Ok(StepList::from_vec(steps_listed(alloc, model, term, &buffers)?))
 }
 
-/// What a term does, from what its parts do.
-fn part_of(alloc: Global, model: &Model, term: &Term) -> Result<Part, StepsEnd>
-    requires { IsTermOf model.now term.now }
-    ensures { (tree : OpenState) → OpensState model.now.bodies (state_of model.now term.now) tree → AnswersPart model.now tree result }
+/// The steps of a term whose list is in the buffers.
+fn steps_listed(
+    alloc: Global,
+    model: &Model,
+    term: &Term,
+    buffers: &Buffers,
+) -> Result<Vec<Step>, AllocError>
+    requires { HasList model.now term.now buffers.now }
+    ensures { IfOk result (λ list. (state : State) (transitions : List StateTransition) → StandsFor model.now state term.now
+        → IsTransitionList model.now.bodies state transitions → AllZip (StepStandsFor model.now) list.items transitions) }
 {
     model.is_sound();
-    match term {
-        Term::Leaf(leaf) => leaf_part(alloc, model, *leaf),
-        Term::Coop(left, right, set) => {
-            let left_part = part_of(alloc, model, left)?;
-            let right_part = part_of(alloc, model, right)?;
-            let types = types_of(model, *set);
-            cooperation_part(alloc, types, *set, left, right, left_part, right_part)
-        }
-        Term::Hide(inner, set) => {
-            let inner_part = part_of(alloc, model, inner)?;
-            hiding_part(alloc, types_of(model, *set), *set, inner_part)
-        }
-    }
-}
-
-/// What a leaf does.
-fn leaf_part(alloc: Global, model: &Model, leaf: u32) -> Result<Part, StepsEnd>
-    requires { leaf < length model.now.leaves }
-    ensures { (tree : OpenState) → OpensState model.now.bodies (AtLeaf (slice_index_or model.now.leaves leaf (Const 0))) tree → AnswersPart model.now tree result }
-{
-    model.is_sound();
-    let steps = leaf_steps(alloc, model.activities(leaf))?;
-    let rates = component_rates(alloc, model, model.leaf(leaf), MAX_HEIGHT)?;
-    Ok(Part { steps, rates })
-}
-
-/// The activities of a leaf, as steps.
-fn leaf_steps(alloc: Global, activities: &[Activity]) -> Result<Vec<Step>, AllocError>
-    ensures steps { IfOk result (λ list. list.items ≡ map step_of activities.now) }
-    ensures in_range { IfOk result (λ list. AreNodesInRange (step_nodes list.items)) }
-{
-    let mut list: Vec<Step> = Vec::new(alloc);
-    for activity in activities {
-        activity.rate.valid();
+    let mut list = Vec::new(alloc);
+    for (index, entry) in buffers.entries().iter().enumerate() {
         list.push(Step {
-            action: activity.action,
-            signals: 0,
-            rate: activity.rate,
-            target: Term::Leaf(activity.target),
+            action: entry.action,
+            signals: entry.signals,
+            rate: entry.rate,
+            target: target(alloc, model, term, buffers, index)?,
         })?;
     }
     Ok(list)

@@ -8,7 +8,7 @@ use Rattle.sim_command.specs.declared.words.Command.TheVariants.{Steps, Check, P
 use Rattle.sim_command.specs.Words.{IsCommand}
 use Rattle.sim_command.specs.ModelAnswers.{IsModelAnswer}
 use Rattle.sim_command.specs.Answer.{IsAnswer}
-use Rattle.sim_command.specs.TopCall.{Seen, AreAllLeft, WroteFront, IsAnswered, IsInputEnding, IsEnding}
+use Rattle.sim_command.specs.TopCall.{Seen, AreAllLeft, NoneFailed, WroteFront, IsAnswered, IsInputEnding, IsEnding}
 
 pub all_left : (before after : Option (List ℕ)) (limit : ℕ) (bytes : List ℕ) → ReadsToEnd before after limit (Ok bytes) → AreAllLeft before after bytes
 all_left None after limit bytes h = tt
@@ -31,13 +31,13 @@ written_is_listed command input answer out (inl unread) wrote = absurd (no_front
 written_is_listed command input answer out (inr read) wrote = written_of_model command read.model answer out read.answer wrote
 
 pub ending : (words : List (List ℕ)) (command : Command) (source out : Seen) (input line : List ℕ) (status : ℕ) → IsCommand words command → length input ≤ 2 ^ 20
-    → AreAllLeft source.before source.after input → IsInputEnding command input out line status → IsEnding words source out line status
-ending words command source out input line status is_command few read (inl memory) =
-    inr (inl (record { ended = memory; source_is = inr (record { command = (command, is_command); input = input; few = few; read = read }) }))
-ending words command source out input line status is_command few read (inr (answer, is, inl delivered)) =
-    let answered : IsAnswered words source answer = record { command = command; is_command = is_command; input = input; few = few; read = read; is = is } in
+    → AreAllLeft source.bytes_before source.bytes_after input → NoneFailed source → IsInputEnding command input out line status → IsEnding words source out line status
+ending words command source out input line status is_command few read sound (inl memory) =
+    inr (inl (record { ended = memory; source_is = inr (record { command = (command, is_command); input = input; few = few; read = read; none_failed = sound }) }))
+ending words command source out input line status is_command few read sound (inr (answer, is, inl delivered)) =
+    let answered : IsAnswered words source answer = record { command = command; is_command = is_command; input = input; few = few; read = read; none_failed = sound; is = is } in
     inr (inr (inr (inr (inl (record { answer = answer; answered = answered; status_is = delivered.0; wrote = delivered.1; line_is = delivered.2 })))))
-ending words command source out input line status is_command few read (inr (answer, is, inr failed)) =
-    let answered : IsAnswered words source answer = record { command = command; is_command = is_command; input = input; few = few; read = read; is = is } in
+ending words command source out input line status is_command few read sound (inr (answer, is, inr failed)) =
+    let answered : IsAnswered words source answer = record { command = command; is_command = is_command; input = input; few = few; read = read; none_failed = sound; is = is } in
     let listed = written_is_listed command input answer out is failed.1 in
     inr (inr (inr (inr (inr (record { answer = answer; answered = answered; listed = listed; status_is = failed.0; wrote = failed.1; line_is = failed.2 })))))

@@ -1,13 +1,14 @@
 -- The first state of a model, and the systems that it is expanded from.
-use Rattle.std.proofs.Common.{◌≡◌, ℕ, suc, ◌+◌, ◌-◌, ◌^◌, ◌<◌, ◌≤◌, max, List, [], Some, slice_get, length, get_or, Result, Ok, Err, IfOk, Box, Global, refl, sym, ap, ◌∙◌, subst, arith}
-use Rattle.std.proofs.lemmas.Option.{slice_get_within, get_or_from_slice_get}
-use Rattle.pepa_model.specs.Expression.{Expression, Const, Shape, LeafShape, ConstShape, CoopShape, HideShape, Definition, IsCompound}
+use Rattle.std.proofs.Common.{◌≡◌, ℕ, ◌-◌, ◌^◌, ◌≤◌, List, [], Some, slice_get, Result, Ok, Err, IfOk, refl, sym, ap, subst, arith}
+use Rattle.std.proofs.lemmas.Option.{slice_get-get_or}
+use Rattle.pepa_model.specs.Expression.{Expression, Shape, LeafShape, ConstShape, CoopShape, HideShape, Definition, IsCompound}
 use Rattle.pepa_model.specs.Expanded.{Expanded, LeafTree, ConstTree, CoopTree, HideTree, Expands, height_of}
 use Rattle.pepa_model.specs.PepaModel.{PepaModel, IsModel, IsShapeOf}
-use Rattle.pepa_model.specs.Terms.{IsTermOf}
-use Rattle.pepa_model.specs.declared.term.Term.{Term, Leaf, Coop', Hide'}
-use Rattle.pepa_steps.specs.States.{State, AtLeaf, Cooperating, Hiding, state_of}
-use Rattle.sim_command.specs.FirstStates.{expanded_state, IsFirstState, CanExpand, IsExpandedTerm}
+use Rattle.pepa_model.specs.Terms.{TermNode, LeafNode, CoopNode, HideNode, term_of, IsTermOf}
+use Rattle.pepa_model.specs.declared.term.Term.{Term}
+use Rattle.pepa_steps.specs.States.{NodeStandsFor}
+use Rattle.pepa_steps.proofs.StateOpens.{node_of_model}
+use Rattle.sim_command.specs.FirstStates.{expanded_state, IsFirstTerm, CanExpand}
 
 -- ---- what a system's tree is
 
@@ -125,63 +126,63 @@ module _ (m : PepaModel) (sound : IsModel m) where
       record { positive = omega arith; inner = record { is_shape = shapes.0; tree = t.inner; expands = t.expands; within = omega arith } }
 
   first_can_expand : CanExpand m m.system (2 ^ 21)
-  first_can_expand = record { is_shape = sound.system; tree = sound.few_leaves.expanded.tree; expands = sound.few_leaves.expanded.expands; within = sound.few_leaves.expanded.shallow }
+  first_can_expand = record { is_shape = sound.system; tree = sound.small_tree.expanded.tree; expands = sound.small_tree.expanded.expands; within = sound.small_tree.expanded.shallow }
 
   -- ---- terms for trees
 
-  abbrev pub StandsForShape : Shape → Term → Type 0
-  StandsForShape shape term = (tree : Expanded) → Expands m.bodies shape tree → IsExpandedTerm m tree term
+  -- the term stands for each tree that the system expands into
+  abbrev pub StandsForShape : Shape → TermNode → Type 0
+  StandsForShape shape node = (tree : Expanded) → Expands m.bodies shape tree → NodeStandsFor m (expanded_state m tree) node
 
-  pub leaf_stands : (shape : Shape) (e : Expression) (number : ℕ) → shape ≡ LeafShape e → slice_get m.leaves number ≡ Some e → StandsForShape shape (Leaf number)
+  pub leaf_stands : (shape : Shape) (e : Expression) (number : ℕ) → shape ≡ LeafShape e → slice_get m.leaves number ≡ Some e → StandsForShape shape (LeafNode number)
   leaf_stands shape e number is at tree expands =
-      subst (λ (t : Expanded). IsExpandedTerm m t (Leaf number)) (sym (leaf_tree m.bodies shape e tree is expands))
-      (record { of_model = slice_get_within m.leaves number e at; state_is = ap AtLeaf (get_or_from_slice_get m.leaves number e (Const 0) at) })
+      subst (λ (t : Expanded). NodeStandsFor m (expanded_state m t) (LeafNode number)) (sym (leaf_tree m.bodies shape e tree is expands)) at
 
-  pub const_stands : (shape : Shape) (c : ℕ) (body : Shape) (term : Term) → shape ≡ ConstShape c → IsCompound m.bodies c body → StandsForShape body term → StandsForShape shape term
+  pub const_stands : (shape : Shape) (c : ℕ) (body : Shape) (term : TermNode) → shape ≡ ConstShape c → IsCompound m.bodies c body → StandsForShape body term → StandsForShape shape term
   const_stands shape c body term is compound inner tree expands =
       let t = const_tree m.bodies shape c tree is expands in
       let below = inner t.inner (subst (λ (s : Shape). Expands m.bodies s t.inner) (same_body c t.body body t.compound compound) t.expands) in
-      subst (λ (e : Expanded). IsExpandedTerm m e term) (sym t.whole) (record { of_model = below.of_model; state_is = below.state_is })
+      subst (λ (e : Expanded). NodeStandsFor m (expanded_state m e) term) (sym t.whole) below
 
-  pub const_answer : {E : Type 0} (shape : Shape) (c : ℕ) (body : Shape) (result : Result Term E) → shape ≡ ConstShape c → IsCompound m.bodies c body → IfOk result (StandsForShape body) → IfOk result (StandsForShape shape)
-  const_answer shape c body (Ok term) is compound inner = const_stands shape c body term is compound inner
+  pub const_answer : {E : Type 0} (shape : Shape) (c : ℕ) (body : Shape) (result : Result Term E) → shape ≡ ConstShape c → IsCompound m.bodies c body → IfOk result (λ term. StandsForShape body (term_of term)) → IfOk result (λ term. StandsForShape shape (term_of term))
+  const_answer shape c body (Ok term) is compound inner = const_stands shape c body (term_of term) is compound inner
   const_answer shape c body (Err e) is compound inner = tt
 
-  pub coop_stands : (shape x y : Shape) (set : ℕ) (p q : Box (Unit {0}) Global) (left right : Term) → shape ≡ CoopShape x y set → IsShapeOf m shape → StandsForShape x left → StandsForShape y right → StandsForShape shape (Coop' p left q right set)
-  coop_stands shape x y set p q left right is shapes l r tree expands =
+  pub coop_stands : (shape x y : Shape) (set : ℕ) (left right : TermNode) → shape ≡ CoopShape x y set → IsShapeOf m shape → StandsForShape x left → StandsForShape y right → StandsForShape shape (CoopNode left right set)
+  coop_stands shape x y set left right is shapes l r tree expands =
       let t = coop_tree m.bodies shape x y set tree is expands in
       let below_left = l t.left t.expands_left in
       let below_right = r t.right t.expands_right in
       let known : IsShapeOf m (CoopShape x y set) = subst (IsShapeOf m) is shapes in
-      subst (λ (e : Expanded). IsExpandedTerm m e (Coop' p left q right set)) (sym t.whole)
-      (record {
-        of_model = (below_left.of_model, below_right.of_model, known.2);
-        state_is = ap (λ (s : State). Cooperating s (state_of m right) (get_or m.sets set [])) below_left.state_is ∙ ap (λ (s : State). Cooperating (expanded_state m t.left) s (get_or m.sets set [])) below_right.state_is;
-      })
+      subst (λ (e : Expanded). NodeStandsFor m (expanded_state m e) (CoopNode left right set)) (sym t.whole)
+      (below_left, below_right, slice_get-get_or m.sets set [] known.2)
 
-  pub hide_stands : (shape x : Shape) (set : ℕ) (p : Box (Unit {0}) Global) (inner : Term) → shape ≡ HideShape x set → IsShapeOf m shape → StandsForShape x inner → StandsForShape shape (Hide' p inner set)
-  hide_stands shape x set p inner is shapes h tree expands =
+  pub hide_stands : (shape x : Shape) (set : ℕ) (inner : TermNode) → shape ≡ HideShape x set → IsShapeOf m shape → StandsForShape x inner → StandsForShape shape (HideNode inner set)
+  hide_stands shape x set inner is shapes h tree expands =
       let t = hide_tree m.bodies shape x set tree is expands in
       let below = h t.inner t.expands in
       let known : IsShapeOf m (HideShape x set) = subst (IsShapeOf m) is shapes in
-      subst (λ (e : Expanded). IsExpandedTerm m e (Hide' p inner set)) (sym t.whole)
-      (record { of_model = (below.of_model, known.1); state_is = ap (λ (s : State). Hiding s (get_or m.sets set [])) below.state_is })
+      subst (λ (e : Expanded). NodeStandsFor m (expanded_state m e) (HideNode inner set)) (sym t.whole)
+      (below, slice_get-get_or m.sets set [] known.1)
 
   -- ---- the model's system
 
   pub system_can_expand : (shape : Shape) → shape ≡ m.system → CanExpand m shape (2 ^ 21)
   system_can_expand shape is = subst (λ (s : Shape). CanExpand m s (2 ^ 21)) (sym is) first_can_expand
 
-  is_first : (shape : Shape) (term : Term) → shape ≡ m.system → StandsForShape shape term → IsTermOf m term × IsFirstState m (state_of m term)
+  is_first : (shape : Shape) (term : Term) → shape ≡ m.system → StandsForShape shape (term_of term) → IsFirstTerm m term
   is_first shape term is stands =
-      let tree = sound.few_leaves.expanded in
-      let h = subst (λ (s : Shape). StandsForShape s term) is stands tree.tree tree.expands in
-      (h.of_model, record { tree = tree.tree; expands = tree.expands; state_is = h.state_is })
+      let tree = sound.small_tree.expanded in
+      record {
+        state = expanded_state m tree.tree;
+        first = record { tree = tree.tree; expands = tree.expands; state_is = refl };
+        stands = subst (λ (s : Shape). StandsForShape s (term_of term)) is stands tree.tree tree.expands;
+      }
 
-  pub first_of_model : {E : Type 0} (shape : Shape) (result : Result Term E) → shape ≡ m.system → IfOk result (StandsForShape shape) → IfOk result (λ term. IsTermOf m term)
-  first_of_model shape (Ok term) is h = (is_first shape term is h).0
+  pub first_of_model : {E : Type 0} (shape : Shape) (result : Result Term E) → shape ≡ m.system → IfOk result (λ term. StandsForShape shape (term_of term)) → IfOk result (λ term. IsTermOf m term)
+  first_of_model shape (Ok term) is h = let first = is_first shape term is h in node_of_model m first.state (term_of term) first.stands
   first_of_model shape (Err e) is h = tt
 
-  pub first_state : {E : Type 0} (shape : Shape) (result : Result Term E) → shape ≡ m.system → IfOk result (StandsForShape shape) → IfOk result (λ term. IsFirstState m (state_of m term))
-  first_state shape (Ok term) is h = (is_first shape term is h).1
-  first_state shape (Err e) is h = tt
+  pub first_term : {E : Type 0} (shape : Shape) (result : Result Term E) → shape ≡ m.system → IfOk result (λ term. StandsForShape shape (term_of term)) → IfOk result (λ term. IsFirstTerm m term)
+  first_term shape (Ok term) is h = is_first shape term is h
+  first_term shape (Err e) is h = tt

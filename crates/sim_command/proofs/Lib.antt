@@ -8,6 +8,10 @@ pub mod LeafLookup
 pub mod Answers
 pub mod FirstTerms
 pub mod Endings
+pub mod Statuses
+pub mod DeviceCalls
+pub mod SoundEndings
+pub mod WordsOutcome
 pub mod OneAnswer
 pub mod PrintedAgain
 pub mod StepJudgements

@@ -1,5 +1,5 @@
 -- A command has one answer to an input.
-use Rattle.std.proofs.Common.{◌≡◌, ℕ, List, ◌⊎◌, inl, inr, refl, sym, ap, subst, ◌∙◌, length, ◌-◌}
+use Rattle.std.proofs.Common.{◌≡◌, ℕ, List, inl, inr, refl, sym, ap, subst, ◌∙◌, length, ◌-◌}
 use Rattle.pepa_lexer.specs.declared.kinds.Place.{Place}
 use Rattle.pepa_model.specs.Expanded.{leaves_in}
 use Rattle.pepa_model.specs.PepaModel.{PepaModel}

@@ -1,25 +1,25 @@
 -- What `steps` answers can be printed: its numbers are the model's, and it has no signals.
-use Rattle.std.proofs.Common.{◌≡◌, ◌==◌, ℕ, ◌<◌, Bool, true, false, cond, not, if◌then◌else◌, bit_or, List, [], ◌∷◌, ◌++◌, map, filter, flat_map, Some, Ok, slice_get, length, get_or, codes, refl, sym, ap, ◌∙◌, subst, arith}
+use Rattle.std.proofs.Common.{◌≡◌, ◌==◌, ℕ, ◌<◌, Bool, true, false, cond, not, if◌then◌else◌, bit_or, List, [], ◌∷◌, ◌++◌, map, filter, flat_map, length, codes, refl, sym, ap, ◌∙◌, subst}
 use Rattle.std.specs.List.{AllByRecursion, AllZip}
-use Rattle.std.proofs.lemmas.Option.{slice_get-get_or, slice_get_within}
+use Rattle.std.proofs.lemmas.Option.{slice_get_within}
 use Rattle.std.proofs.lemmas.List.Elements.{All-from_recursion}
 use Rattle.pepa_rates.specs.declared.rate.Rate.{Rate}
-use Rattle.pepa_model.specs.Expression.{Expression, Const}
 use Rattle.pepa_model.specs.Derivation.{Transition}
-use Rattle.pepa_model.specs.Opened.{Opened, Opens, moves}
+use Rattle.pepa_model.specs.Opened.{Opened, moves}
 use Rattle.pepa_model.specs.PepaModel.{PepaModel, IsModel, StandsForTransition}
-use Rattle.pepa_model.specs.Terms.{TermNode, LeafNode, CoopNode, HideNode, term_of, IsNodeOf, IsTermOf}
+use Rattle.pepa_model.specs.Terms.{TermNode, LeafNode, CoopNode, HideNode, term_of}
 use Rattle.pepa_model.specs.declared.term.Activity.{Activity}
 use Rattle.pepa_model.specs.declared.term.Step.{Step}
-use Rattle.pepa_model.specs.declared.term.Term.{Term}
 use Rattle.pepa_model.proofs.OneList.{one_opening}
-use Rattle.pepa_steps.specs.States.{State, has, StateTransition, node_state, state_of, StepStandsFor}
-use Rattle.pepa_steps.specs.OpenStates.{OpenState, LeafOpen, CoopOpen, HideOpen, OpensState, parts_in, moves_in, leaf_move, left_move, right_move, joint_move, joint_moves, hidden_move, closed_state, apparent_in, rate_of}
+use Rattle.pepa_steps.specs.States.{State, AtLeaf, Cooperating, Hiding, has, StateTransition, NodeStandsFor, StepStandsFor}
+use Rattle.pepa_steps.specs.Moves.{joint}
+use Rattle.pepa_steps.specs.OpenStates.{OpenState, LeafOpen, CoopOpen, HideOpen, OpensState, parts_in, moves_in, leaf_move, left_move, right_move, joint_move, hidden_move, closed_state, apparent_in, rate_of}
 use Rattle.pepa_steps.specs.StateVerdict.{IsFinePart, HasFineRates}
-use Rattle.pepa_steps.specs.StepsAnswers.{IsStepsAnswer}
 use Rattle.pepa_steps.proofs.OneState.{one_list}
 use Rattle.pepa_steps.proofs.StateLists.{transition_list}
 use Rattle.pepa_steps.proofs.WithoutTau.{state_without_tau}
+use Rattle.pepa_steps.proofs.StateOpens.{node_of_model}
+use Rattle.sim_command.specs.Judgements.{AreStepsOf}
 use Rattle.sim_command.specs.StepsText.{CanPrint, CanPrintStep}
 
 -- ---- lists
@@ -62,7 +62,7 @@ module _ (m : PepaModel) (sound : IsModel m) where
   tau_known : 0 < length m.actions
   tau_known = slice_get_within m.actions 0 (codes "tau") sound.tau
 
-  joint_known : (set : List ℕ) (ra rb : ℕ → Rate) (us vs : List StateTransition) → AllByRecursion IsKnown us → AllByRecursion IsKnown vs → AllByRecursion IsKnown (joint_moves set ra rb us vs)
+  joint_known : (set : List ℕ) (ra rb : ℕ → Rate) (us vs : List StateTransition) → AllByRecursion IsKnown us → AllByRecursion IsKnown vs → AllByRecursion IsKnown (joint (λ p q. Cooperating p q set) set ra rb us vs)
   joint_known set ra rb us vs h k =
       all_flat IsKnown IsKnown (λ u. map (joint_move set (ra u.action) (rb u.action) u) (filter (λ v. u.action == v.action) vs))
       (λ u known. all_map IsKnown IsKnown (joint_move set (ra u.action) (rb u.action) u) (λ v other. (known.0, united u.signals v.signals known.1 other.1)) (filter (λ v. u.action == v.action) vs) (all_filter IsKnown (λ v. u.action == v.action) vs k))
@@ -71,48 +71,48 @@ module _ (m : PepaModel) (sound : IsModel m) where
       united : (x y : ℕ) → x ≡ 0 → y ≡ 0 → bit_or x y ≡ 0
       united x y e f = ap (λ (n : ℕ). bit_or n y) e ∙ ap (λ (n : ℕ). bit_or 0 n) f
 
-  moves_known : (node : TermNode) (tree : OpenState) → IsNodeOf m node → OpensState m.bodies (node_state m node) tree → AllByRecursion IsKnown (moves_in tree)
-  moves_known (LeafNode n) (LeafOpen o) is opens =
-      let e : Expression = get_or m.leaves n (Const 0) in
-      let leaf = sound.leaves n e (slice_get-get_or m.leaves n (Const 0) is) in
+  moves_known : (state : State) (node : TermNode) (tree : OpenState) → NodeStandsFor m state node → OpensState m.bodies state tree → AllByRecursion IsKnown (moves_in tree)
+  moves_known (AtLeaf e) (LeafNode n) (LeafOpen o) stands opens =
+      let leaf = sound.leaves n e stands in
       let same : leaf.opened ≡ o = one_opening m.bodies e e leaf.opened o refl leaf.opens opens in
       subst (λ (p : Opened). AllByRecursion IsKnown (map leaf_move (moves p))) same (leaf_known leaf.activities (moves leaf.opened) leaf.stand leaf.known)
-  moves_known (LeafNode n) (CoopOpen s t set) is opens = absurd opens
-  moves_known (LeafNode n) (HideOpen s set) is opens = absurd opens
-  moves_known (CoopNode x y set) (LeafOpen o) is opens = absurd opens
-  moves_known (CoopNode x y set) (HideOpen s other) is opens = absurd opens
-  moves_known (CoopNode x y set) (CoopOpen s t other) is opens =
-      let left = moves_known x s is.0 opens.0 in
-      let right = moves_known y t is.1 opens.1 in
+  moves_known (AtLeaf e) (LeafNode n) (CoopOpen s t set) stands opens = absurd opens
+  moves_known (AtLeaf e) (LeafNode n) (HideOpen s set) stands opens = absurd opens
+  moves_known (Cooperating p q set) (CoopNode x y number) (LeafOpen o) stands opens = absurd opens
+  moves_known (Cooperating p q set) (CoopNode x y number) (HideOpen s other) stands opens = absurd opens
+  moves_known (Cooperating p q set) (CoopNode x y number) (CoopOpen s t other) (of_x, of_y, at) opens =
+      let left = moves_known p x s of_x opens.0 in
+      let right = moves_known q y t of_y opens.1 in
       all_append IsKnown
       (map (left_move (closed_state t) other) (filter (λ u. not (has other u.action)) (moves_in s)) ++ map (right_move (closed_state s) other) (filter (λ v. not (has other v.action)) (moves_in t)))
-      (joint_moves other (λ a. rate_of (apparent_in s a)) (λ a. rate_of (apparent_in t a)) (moves_in s) (moves_in t))
+      (joint (λ p q. Cooperating p q other) other (λ a. rate_of (apparent_in s a)) (λ a. rate_of (apparent_in t a)) (moves_in s) (moves_in t))
       (all_append IsKnown
       (map (left_move (closed_state t) other) (filter (λ u. not (has other u.action)) (moves_in s))) (map (right_move (closed_state s) other) (filter (λ v. not (has other v.action)) (moves_in t)))
       (all_map IsKnown IsKnown (left_move (closed_state t) other) (λ u known. known) (filter (λ u. not (has other u.action)) (moves_in s)) (all_filter IsKnown (λ u. not (has other u.action)) (moves_in s) left))
       (all_map IsKnown IsKnown (right_move (closed_state s) other) (λ v known. known) (filter (λ v. not (has other v.action)) (moves_in t)) (all_filter IsKnown (λ v. not (has other v.action)) (moves_in t) right)))
       (joint_known other (λ a. rate_of (apparent_in s a)) (λ a. rate_of (apparent_in t a)) (moves_in s) (moves_in t) left right)
-  moves_known (HideNode x set) (LeafOpen o) is opens = absurd opens
-  moves_known (HideNode x set) (CoopOpen s t other) is opens = absurd opens
-  moves_known (HideNode x set) (HideOpen s other) is opens =
-      all_map IsKnown IsKnown (hidden_move other) (λ u known. (by (has other u.action) u.action known.0, known.1)) (moves_in s) (moves_known x s is.0 opens.0)
+  moves_known (Hiding p set) (HideNode x number) (LeafOpen o) stands opens = absurd opens
+  moves_known (Hiding p set) (HideNode x number) (CoopOpen s t other) stands opens = absurd opens
+  moves_known (Hiding p set) (HideNode x number) (HideOpen s other) (of_x, at) opens =
+      all_map IsKnown IsKnown (hidden_move other) (λ u known. (by (has other u.action) u.action known.0, known.1)) (moves_in s) (moves_known p x s of_x opens.0)
     where
       by : (b : Bool) (a : ℕ) → a < length m.actions → (if b then 0 else a) < length m.actions
       by true a known = tau_known
       by false a known = known
+  moves_known state node tree stands opens = absurd stands
 
   each_can_print : (steps : List Step) (ts : List StateTransition) → AllZip (StepStandsFor m) steps ts → AllByRecursion IsKnown ts → AllByRecursion (CanPrintStep m) steps
   each_can_print [] ts h known = tt
   each_can_print (s ∷ steps) [] h known = absurd h
   each_can_print (s ∷ steps) (t ∷ ts) h known =
-      (record { action = subst (λ (n : ℕ). n < length m.actions) (sym h.0.action) known.0.0; signals = h.0.signals ∙ known.0.1; target = h.0.of_model }, each_can_print steps ts h.1 known.1)
+      (record { action = subst (λ (n : ℕ). n < length m.actions) (sym h.0.action) known.0.0; signals = h.0.signals ∙ known.0.1; target = node_of_model m t.target (term_of s.target) h.0.target }, each_can_print steps ts h.1 known.1)
 
-  pub steps_can_print : (term : Term) (steps : List Step) → IsTermOf m term → IsStepsAnswer m (state_of m term) (Ok steps) → CanPrint m steps
-  steps_can_print term steps is ((tree, opens, fine), (transitions, listed, stand)) =
-      let moves_list = transition_list m.bodies (state_of m term) tree opens (state_without_tau m sound (term_of term) tree is opens) (rates_of (parts_in tree) fine) in
-      let same : transitions ≡ moves_in tree = one_list m.bodies (state_of m term) transitions (moves_in tree) listed moves_list in
+  pub steps_can_print : (state : State) (node : TermNode) (steps : List Step) → NodeStandsFor m state node → AreStepsOf m state steps → CanPrint m steps
+  steps_can_print state node steps stands ((tree, opens, fine), (transitions, listed, stand)) =
+      let moves_list = transition_list m.bodies state tree opens (state_without_tau m sound state node tree stands opens) (rates_of (parts_in tree) fine) in
+      let same : transitions ≡ moves_in tree = one_list m.bodies state transitions (moves_in tree) listed moves_list in
       All-from_recursion (CanPrintStep m) steps
-      (each_can_print steps (moves_in tree) (subst (λ (ts : List StateTransition). AllZip (StepStandsFor m) steps ts) same stand) (moves_known (term_of term) tree is opens))
+      (each_can_print steps (moves_in tree) (subst (λ (ts : List StateTransition). AllZip (StepStandsFor m) steps ts) same stand) (moves_known state node tree stands opens))
     where
       rates_of : (parts : List OpenState) → AllByRecursion IsFinePart parts → AllByRecursion HasFineRates parts
       rates_of [] h = tt

@@ -6,7 +6,7 @@ use Rattle.pepa_rates.specs.Sum.{fraction_of}
 use Rattle.pepa_model.specs.declared.term.Step.{Step}
 use Rattle.sim_command.specs.Judgements.{step_rates}
 use Rattle.pepa_rates.specs.declared.rate.Rate.{Rate}
-use Rattle.pepa_rates.specs.declared.rate.Rate.TheVariants.{Active, Passive}
+use Rattle.pepa_rates.specs.declared.rate.Rate.TheVariants.{Active}
 use Rattle.pepa_model.specs.Derivation.{Among}
 use Rattle.pepa_steps.specs.WholeVerdict.{IsPassive, HasPassive}
 

@@ -125,13 +125,13 @@ pub record CountsSoFar (m : PepaModel) (most count : ℕ) (constants : List ℕ)
 
 pub counts_first : (m : PepaModel) (count : ℕ) (constants : List ℕ) → IsModel m → count ≡ own_leaves m.system → constants ≡ constants_in m.system → CountsSoFar m (2 ^ 21) count constants
 counts_first m count constants sound count_is constants_is =
-    let system = sound.few_leaves.expanded in
+    let system = sound.small_tree.expanded in
     let own = own_trees m.bodies (2 ^ 21) m.system system.tree system.expands system.shallow in
     let leaves : leaves_in system.tree ≡ own_leaves m.system + sum_by leaves_in own.trees = own.leaves in
     record {
       tree = system.tree;
       expands = system.expands;
-      few = sound.few_leaves.few;
+      few = sound.small_tree.leaves;
       trees = own.trees;
       each = subst (λ (l : List ℕ). AreTrees m.bodies (2 ^ 21) l own.trees) (sym constants_is) own.each;
       whole = omega arith;

@@ -3,9 +3,8 @@ use Rattle.std.specs.Prelude.{◌≡◌, ℕ, ◌≤◌, [], slice_index_or}
 use Rattle.pepa_model.specs.Expression.{Shape}
 use Rattle.pepa_model.specs.Expanded.{Expanded, LeafTree, ConstTree, CoopTree, HideTree, Expands, height_of}
 use Rattle.pepa_model.specs.PepaModel.{PepaModel, IsShapeOf}
-use Rattle.pepa_model.specs.Terms.{IsTermOf}
 use Rattle.pepa_model.specs.declared.term.Term.{Term}
-use Rattle.pepa_steps.specs.States.{State, AtLeaf, Cooperating, Hiding, state_of}
+use Rattle.pepa_steps.specs.States.{State, AtLeaf, Cooperating, Hiding, StandsFor}
 
 -- a compound constant is the system that it stands for
 abbrev pub expanded_state : PepaModel → Expanded → State
@@ -26,7 +25,12 @@ pub record CanExpand (m : PepaModel) (shape : Shape) (depth : ℕ) : Type 0 wher
   pub expands : Expands m.bodies shape tree
   pub within : height_of tree ≤ depth
 
--- the term is of the model, and stands for the tree's state
-pub record IsExpandedTerm (m : PepaModel) (tree : Expanded) (term : Term) : Type 0 where
-  pub of_model : IsTermOf m term
-  pub state_is : state_of m term ≡ expanded_state m tree
+-- the term stands for the first state
+pub record IsFirstTerm (m : PepaModel) (term : Term) : Type 0 where
+  pub state : State
+  pub first : IsFirstState m state
+  pub stands : StandsFor m state term
+
+-- the term stands for the tree's state
+abbrev pub IsExpandedTerm : PepaModel → Expanded → Term → Type 0
+IsExpandedTerm m tree term = StandsFor m (expanded_state m tree) term

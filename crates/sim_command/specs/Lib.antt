@@ -8,6 +8,8 @@ pub mod CheckText
 pub mod ModelAnswers
 pub mod Answer
 pub mod TopCall
+pub mod DeviceCalls
+pub mod SoundEndings
 pub mod ShortTexts
 pub mod FirstStates
 pub mod Judgements

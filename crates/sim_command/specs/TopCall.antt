@@ -11,11 +11,12 @@ use Rattle.sim_command.specs.Words.{IsCommand}
 use Rattle.sim_command.specs.FaultLine.{fault_text}
 use Rattle.sim_command.specs.Answer.{IsAnswer}
 
--- a device before a call and after it: the bytes left to read, or written so far, where it tells them, and its faults
+-- a device before a call and after it: the bytes left to read, or written so far, where it tells them, and how many of its calls
+-- had failed
 pub record Seen : Type 0 where
-  pub before : Option (List ℕ)
-  pub after : Option (List ℕ)
-  pub faults : ℕ
+  pub bytes_before : Option (List ℕ)
+  pub bytes_after : Option (List ℕ)
+  pub faults_before : ℕ
   pub faults_after : ℕ
 
 -- where they are told, these were all the bytes left, and none is left now
@@ -23,18 +24,27 @@ abbrev pub AreAllLeft : Option (List ℕ) → Option (List ℕ) → List ℕ →
 AreAllLeft None after input = Unit {0}
 AreAllLeft (Some left) after input = (input ≡ left) × (after ≡ Some [])
 
--- nothing was asked of the device
-pub record IsUntouched (device : Seen) : Type 0 where
-  pub bytes : device.after ≡ device.before
-  pub faults : device.faults_after ≡ device.faults
+-- no call of the device failed
+abbrev pub NoneFailed : Seen → Type 0
+NoneFailed device = device.faults_after ≡ device.faults_before
+
+-- the device's bytes and its count of faults are as before
+pub record IsAsBefore (device : Seen) : Type 0 where
+  pub bytes : device.bytes_after ≡ device.bytes_before
+  pub none_failed : NoneFailed device
 
 -- the bytes written grew by these
 abbrev pub Wrote : Seen → List ℕ → Type 0
-Wrote device piece = Grows device.before device.after piece
+Wrote device piece = Grows device.bytes_before device.bytes_after piece
+
+-- the bytes written grew by these, and no write failed
+pub record WroteAll (device : Seen) (piece : List ℕ) : Type 0 where
+  pub wrote : Wrote device piece
+  pub none_failed : NoneFailed device
 
 -- a write failed, and only a front of these was written
 pub record WroteFront (device : Seen) (piece : List ℕ) : Type 0 where
-  pub failed : Rose device.faults device.faults_after
+  pub failed : Rose device.faults_before device.faults_after
   pub count : ℕ
   pub short : count < length piece
   pub wrote : Wrote device (take count piece)
@@ -43,64 +53,67 @@ pub record WroteFront (device : Seen) (piece : List ℕ) : Type 0 where
 pub record EndsInUsage (words : List (List ℕ)) (source out : Seen) (line : List ℕ) (status : ℕ) : Type 0 where
   pub no_command : (command : Command) → ¬ IsCommand words command
   pub status_is : status ≡ 2
-  pub source_stays : IsUntouched source
-  pub out_stays : IsUntouched out
+  pub source_stays : IsAsBefore source
+  pub out_stays : IsAsBefore out
   pub line_is : line ≡ fault_text faults.Usage
 
 -- the words give a command
 abbrev pub AreCommand : List (List ℕ) → Type 0
 AreCommand words = (command : Command) × IsCommand words command
 
--- the words give a command, and the input was read to its end
+-- the words give a command, and the input was read to its end with no failure
 pub record IsReadThrough (words : List (List ℕ)) (source : Seen) : Type 0 where
   pub command : AreCommand words
   pub input : List ℕ
   pub few : length input ≤ 2 ^ 20
-  pub read : AreAllLeft source.before source.after input
+  pub read : AreAllLeft source.bytes_before source.bytes_after input
+  pub none_failed : NoneFailed source
 
 -- the memory ran out, and nothing is written
 pub record IsOutOfMemory (out : Seen) (line : List ℕ) (status : ℕ) : Type 0 where
   pub status_is : status ≡ 1
-  pub out_stays : IsUntouched out
+  pub out_stays : IsAsBefore out
   pub line_is : line ≡ fault_text faults.Memory
 
 -- status 1: the memory ran out, before the first read or once the input was read
 pub record EndsInMemory (words : List (List ℕ)) (source out : Seen) (line : List ℕ) (status : ℕ) : Type 0 where
   pub ended : IsOutOfMemory out line status
-  pub source_is : IsUntouched source ⊎ IsReadThrough words source
+  pub source_is : IsAsBefore source ⊎ IsReadThrough words source
 
 -- status 4: a read failed
 pub record EndsInReadFault (words : List (List ℕ)) (source out : Seen) (line : List ℕ) (status : ℕ) : Type 0 where
   pub command : AreCommand words
-  pub failed : Rose source.faults source.faults_after
-  pub read : ReadsToEnd source.before source.after (2 ^ 20) (Err ReadFault)
+  pub failed : Rose source.faults_before source.faults_after
+  pub read : ReadsToEnd source.bytes_before source.bytes_after (2 ^ 20) (Err ReadFault)
   pub status_is : status ≡ 4
-  pub out_stays : IsUntouched out
+  pub out_stays : IsAsBefore out
   pub line_is : line ≡ fault_text faults.ReadFault
 
--- status 3: more than 2^20 bytes came
+-- status 3: more than 2^20 bytes came, and no read failed
 pub record EndsTooLong (words : List (List ℕ)) (source out : Seen) (line : List ℕ) (status : ℕ) : Type 0 where
   pub command : AreCommand words
-  pub read : ReadsToEnd source.before source.after (2 ^ 20) (Err TooLong)
+  pub read : ReadsToEnd source.bytes_before source.bytes_after (2 ^ 20) (Err TooLong)
+  pub none_failed : NoneFailed source
   pub status_is : status ≡ 3
-  pub out_stays : IsUntouched out
+  pub out_stays : IsAsBefore out
   pub line_is : line ≡ fault_text faults.TooLong
 
--- the input was read to its end, and this is the answer of the command to these bytes
+-- the input was read to its end with no failure, and this is the answer of the command to these bytes
 pub record IsAnswered (words : List (List ℕ)) (source : Seen) (answer : Answered) : Type 0 where
   pub command : Command
   pub is_command : IsCommand words command
   pub input : List ℕ
   pub few : length input ≤ 2 ^ 20
-  pub read : AreAllLeft source.before source.after input
+  pub read : AreAllLeft source.bytes_before source.bytes_after input
+  pub none_failed : NoneFailed source
   pub is : IsAnswer command input answer
 
--- status 0, 3 or 6: the answer's, and its bytes are written
+-- status 0, 3 or 6: the answer's, and its bytes are written with no failure
 pub record EndsInAnswer (words : List (List ℕ)) (source out : Seen) (line : List ℕ) (status : ℕ) : Type 0 where
   pub answer : Answered
   pub answered : IsAnswered words source answer
   pub status_is : status ≡ answer.status
-  pub wrote : Wrote out answer.out
+  pub wrote : WroteAll out answer.out
   pub line_is : line ≡ answer.line
 
 -- status 5: the answer has status 0, and a write of its bytes failed
@@ -123,15 +136,16 @@ IsEnding words source out line status =
 
 -- the line is written, or a front of it where a write failed
 abbrev pub IsTold : Seen → List ℕ → Type 0
-IsTold device line = Wrote device line ⊎ WroteFront device line
+IsTold device line = WroteAll device line ⊎ WroteFront device line
 
 abbrev pub seen : Option (List ℕ) → Option (List ℕ) → ℕ → ℕ → Seen
-seen before after faults faults_after = record { before = before; after = after; faults = faults; faults_after = faults_after }
+seen bytes_before bytes_after faults_before faults_after =
+    record { bytes_before = bytes_before; bytes_after = bytes_after; faults_before = faults_before; faults_after = faults_after }
 
 -- an answer is delivered: its bytes are written, or a write of them failed
 abbrev pub IsDelivery : Answered → Seen → List ℕ → ℕ → Type 0
 IsDelivery answer out line status =
-    ((status ≡ answer.status) × Wrote out answer.out × (line ≡ answer.line))
+    ((status ≡ answer.status) × WroteAll out answer.out × (line ≡ answer.line))
     ⊎ ((status ≡ 5) × WroteFront out answer.out × (line ≡ fault_text faults.WriteFault))
 
 -- the command answers the input, and the answer is delivered, or the memory ran out

@@ -99,6 +99,3 @@ fn stop_name(stop: &Stop) -> &[u8]
         Stop::DrawLimit => b"draw limit",
     }
 }
-
-#[cfg(test)]
-mod tests;

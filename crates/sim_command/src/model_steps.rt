@@ -1,17 +1,14 @@
 //! The answer of `steps` for a model.
 ghost use Rattle.std.specs.Prelude.{◌≡◌, IfOk};
-ghost use Rattle.pepa_model.specs.Terms.{IsTermOf};
-ghost use Rattle.pepa_steps.specs.States.{state_of};
-ghost use Rattle.sim_command.specs.FirstStates.{IsFirstState};
-ghost use Rattle.sim_command.specs.Judgements.{IsJudged, step_rates, AreStepsOf};
+ghost use Rattle.sim_command.specs.Judgements.{IsJudged, step_rates, AreFirstSteps};
 ghost use Rattle.sim_command.specs.ModelAnswers.{IsStepsAnswer, stop_of};
 
 use crate::answered::{Answered, refusal};
 use crate::fault::{Fault, Stop};
-use crate::first_term::first_term;
+use crate::first_state::first_term;
 use crate::line::Line;
 use crate::transition_text::steps_text;
-use pepa_model::{Model, Step, Term};
+use pepa_model::{Model, Step};
 use pepa_rates::{Rate, WeightFault, weights};
 use pepa_steps::{StepFault, StepsEnd, steps};
 use sqlite_items::Items;
@@ -24,7 +21,7 @@ pub(crate) fn steps_answer(alloc: Global, model: &Model) -> Result<Answered, All
     model.is_sound();
     let term = first_term(alloc, model)?;
     match steps(alloc, model, &term) {
-        Ok(list) => list_answer(alloc, model, &term, list.as_slice()),
+        Ok(list) => list_answer(alloc, model, list.as_slice()),
         Err(StepsEnd::Fault(fault)) => {
             let stop = stop_named(fault);
             Ok(refusal(alloc, 6, &Fault::StepsStopped { stop }))
@@ -34,15 +31,8 @@ pub(crate) fn steps_answer(alloc: Global, model: &Model) -> Result<Answered, All
 }
 
 /// The answer for the steps of the first state, none of whose parts has a fault.
-fn list_answer(
-    alloc: Global,
-    model: &Model,
-    term: &Term,
-    list: &[Step],
-) -> Result<Answered, AllocError>
-    requires of_model { IsTermOf model.now term.now }
-    requires first { IsFirstState model.now (state_of model.now term.now) }
-    requires steps { AreStepsOf model.now (state_of model.now term.now) list.now }
+fn list_answer(alloc: Global, model: &Model, list: &[Step]) -> Result<Answered, AllocError>
+    requires { AreFirstSteps model.now list.now }
     ensures { IfOk result (IsStepsAnswer model.now) }
 {
     model.is_sound();
@@ -84,6 +74,3 @@ fn stop_named(fault: StepFault) -> Stop
         StepFault::ListTooLong => Stop::ListTooLong,
     }
 }
-
-#[cfg(test)]
-mod tests;

@@ -4,6 +4,7 @@ ghost use Rattle.std.specs.String.{string_bytes};
 ghost use Rattle.sim_command.specs.FaultLine.{fault_text};
 ghost use Rattle.sim_command.specs.Words.{IsCommand};
 ghost use Rattle.sim_command.specs.TopCall.{IsEnding, IsInputEnding, IsDelivery, IsTold, seen};
+ghost use Rattle.sim_command.specs.DeviceCalls.{IsReadOnce, IsWrittenOnce, IsDeliveredBy};
 
 use crate::answer::command_answer;
 use crate::answered::Answered;
@@ -35,7 +36,8 @@ pub(crate) struct Ending {
 /// - 5: a write of the answer failed;
 /// - 6: the verdict on the model names a stop.
 ///
-/// A failing `err` changes no status.
+/// A failing `err` changes no status. The source is read to its end, to the first read that fails, or until it is too long, and not
+/// again; the answer is written to the first write that fails, and not again.
 pub fn pepaprobe<S: Source, K: Sink, E: Sink>(
     alloc: Global,
     words: &[String],
@@ -43,12 +45,14 @@ pub fn pepaprobe<S: Source, K: Sink, E: Sink>(
     out: &mut K,
     err: &mut E,
 ) -> u8
-    ensures { (line : List ℕ)
+    ensures ending { (line : List ℕ)
         × IsEnding (map string_bytes words.now)
         (seen (S.left source.old) (S.left source.new) (S.faults source.old) (S.faults source.new))
         (seen (K.written out.old) (K.written out.new) (K.faults out.old) (K.faults out.new))
         line result
         × IsTold (seen (E.written err.old) (E.written err.new) (E.faults err.old) (E.faults err.new)) line }
+    ensures source_calls { IsReadOnce S.one_read source.old result source.new }
+    ensures out_calls { IsWrittenOnce K.one_write out.old result out.new }
 {
     let Ending { status, line } = run(alloc, words, source, out);
     let _ = write_all(err, line.as_slice());
@@ -57,10 +61,12 @@ pub fn pepaprobe<S: Source, K: Sink, E: Sink>(
 
 // All but the fault's line.
 fn run<S: Source, K: Sink>(alloc: Global, words: &[String], source: &mut S, out: &mut K) -> Ending
-    ensures { IsEnding (map string_bytes words.now)
+    ensures ending { IsEnding (map string_bytes words.now)
         (seen (S.left source.old) (S.left source.new) (S.faults source.old) (S.faults source.new))
         (seen (K.written out.old) (K.written out.new) (K.faults out.old) (K.faults out.new))
         result.line result.status }
+    ensures source_calls { IsReadOnce S.one_read source.old result.status source.new }
+    ensures out_calls { IsWrittenOnce K.one_write out.old result.status out.new }
 {
     match read_words(alloc, words) {
         Ok(command) => run_command(alloc, command, source, out),
@@ -76,11 +82,13 @@ fn run_command<S: Source, K: Sink>(
     source: &mut S,
     out: &mut K,
 ) -> Ending
-    ensures { (words : List (List ℕ)) → IsCommand words command
+    ensures ending { (words : List (List ℕ)) → IsCommand words command
         → IsEnding words
         (seen (S.left source.old) (S.left source.new) (S.faults source.old) (S.faults source.new))
         (seen (K.written out.old) (K.written out.new) (K.faults out.old) (K.faults out.new))
         result.line result.status }
+    ensures source_calls { IsReadOnce S.one_read source.old result.status source.new }
+    ensures out_calls { IsWrittenOnce K.one_write out.old result.status out.new }
 {
     match read_all(alloc, source, MOST_BYTES) {
         Ok(input) => answer_input(alloc, command, input.as_slice(), out),
@@ -93,9 +101,11 @@ fn run_command<S: Source, K: Sink>(
 // Answers an input that was read.
 fn answer_input<K: Sink>(alloc: Global, command: Command, input: &[u8], out: &mut K) -> Ending
     requires { length input.now ≤ 2 ^ 20 }
-    ensures { IsInputEnding command input.now
+    ensures ending { IsInputEnding command input.now
         (seen (K.written out.old) (K.written out.new) (K.faults out.old) (K.faults out.new))
         result.line result.status }
+    ensures out_calls { IsWrittenOnce K.one_write out.old result.status out.new }
+    ensures no_read_fault { ¬ (result.status ≡ 4) }
 {
     match command_answer(alloc, command, input) {
         Ok(answered) => deliver(answered, out),
@@ -105,9 +115,10 @@ fn answer_input<K: Sink>(alloc: Global, command: Command, input: &[u8], out: &mu
 
 // Writes the bytes of an answer.
 fn deliver<K: Sink>(answered: Answered, out: &mut K) -> Ending
-    ensures { IsDelivery answered
+    ensures ending { IsDelivery answered
         (seen (K.written out.old) (K.written out.new) (K.faults out.old) (K.faults out.new))
         result.line result.status }
+    ensures out_calls { IsDeliveredBy K.one_write out.old answered.out answered.status result.status out.new }
 {
     let Answered {
         status,
@@ -130,6 +141,3 @@ fn refused(status: u8, fault: &Fault) -> Ending
         line: fault_line(fault),
     }
 }
-
-#[cfg(test)]
-mod tests;

@@ -1,12 +1,11 @@
-ghost use Rattle.std.specs.Prelude.{◌≡◌, ◌++◌, IfOk, OnOk};
-ghost use Rattle.pepa_model.specs.Terms.{IsTermOf};
+ghost use Rattle.std.specs.Prelude.{◌≡◌, ◌++◌, List, IfOk, OnOk};
+ghost use Rattle.std.specs.List.{AllZip};
+ghost use Rattle.pepa_model.specs.Terms.{term_of, IsTermOf};
 ghost use Rattle.pepa_model.specs.Expression.{expression_of};
-ghost use Rattle.pepa_model.specs.PepaModel.{PepaModel};
 ghost use Rattle.pepa_printer.specs.ModelText as printer;
-ghost use Rattle.pepa_steps.specs.States.{state_of};
-ghost use Rattle.sim_command.specs.TransitionsText as spec;
-ghost use Rattle.sim_command.specs.TransitionsText.{state_text};
-ghost use Rattle.sim_command.specs.StepsText.{CanPrint, CanPrintStep, step_text, steps_text_of};
+ghost use Rattle.pepa_steps.specs.States.{StateTransition, StepStandsFor};
+ghost use Rattle.sim_command.specs.TransitionsText.{transitions_text};
+ghost use Rattle.sim_command.specs.StepsText.{CanPrint, CanPrintStep, step_text, node_text, is_coop_node, is_open_node};
 
 use pepa_model::{Model, Sequential, Step, Term};
 use pepa_printer::{
@@ -18,7 +17,8 @@ use std::alloc::{AllocError, Global};
 /// The text of transitions, a line for each: the action type, the rate, and the target.
 pub fn steps_text(alloc: Global, model: &Model, steps: &[Step]) -> Result<Bytes, AllocError>
     requires { CanPrint model.now steps.now }
-    ensures { IfOk result (λ text. text ≡ steps_text_of model.now steps.now) }
+    ensures { IfOk result (λ text. (transitions : List StateTransition) → AllZip (StepStandsFor model.now) steps.now transitions
+        → text ≡ transitions_text model.now transitions) }
 {
     let mut text = Vec::new(alloc);
     for step in steps {
@@ -44,7 +44,7 @@ fn push_step(alloc: Global, to: &mut Vec<u8>, model: &Model, step: &Step) -> Res
 /// is neither a constant nor a hiding.
 fn push_term(alloc: Global, to: &mut Vec<u8>, model: &Model, term: &Term) -> Result<(), AllocError>
     requires { IsTermOf model.now term.now }
-    ensures { OnOk result (to.new.items ≡ to.old.items ++ state_text model.now (state_of model.now term.now)) }
+    ensures { OnOk result (to.new.items ≡ to.old.items ++ node_text model.now (term_of term.now)) }
 {
     model.is_sound();
     match term {
@@ -71,7 +71,7 @@ fn push_term(alloc: Global, to: &mut Vec<u8>, model: &Model, term: &Term) -> Res
 
 /// Whether a term is a cooperation.
 fn is_cooperation(term: &Term) -> bool
-    ensures { (m : PepaModel) → result ≡ spec.is_cooperating (state_of m term.now) }
+    ensures { result ≡ is_coop_node (term_of term.now) }
 {
     matches!(term, Term::Coop(..))
 }
@@ -79,7 +79,7 @@ fn is_cooperation(term: &Term) -> bool
 /// Whether a term stands in brackets before `/`.
 fn is_open(model: &Model, term: &Term) -> bool
     requires { IsTermOf model.now term.now }
-    ensures { result ≡ spec.is_open (state_of model.now term.now) }
+    ensures { result ≡ is_open_node model.now (term_of term.now) }
 {
     match term {
         Term::Leaf(leaf) => is_composed(model.leaf(*leaf)),

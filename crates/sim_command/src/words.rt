@@ -34,6 +34,3 @@ pub fn read_words(_alloc: Global, words: &[String]) -> Result<Command, WordsFaul
         _ => Err(WordsFault::Usage),
     }
 }
-
-#[cfg(test)]
-mod tests;

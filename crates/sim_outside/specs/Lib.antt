@@ -2,5 +2,9 @@ pub mod Faults
 pub mod Source
 pub mod Sink
 pub mod ReadAll
+pub mod Readings
+pub mod Writes
 pub mod MemSource
 pub mod MemSink
+pub mod StdDevices
+pub mod TicksText

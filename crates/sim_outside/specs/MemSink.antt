@@ -1,5 +1,5 @@
 -- A sink that keeps its bytes in memory: what its next write does.
-use Rattle.std.specs.Prelude.{ℕ, ◌-◌, ◌==◌, ◌||◌, ◌&&◌, nat_lt, if◌then◌else◌, Bool, Result, Ok, Err, List, ◌++◌, length, take, min}
+use Rattle.std.specs.Prelude.{◌≡◌, ℕ, ◌-◌, ◌==◌, ◌||◌, ◌&&◌, nat_lt, if◌then◌else◌, Bool, Result, Ok, Err, List, ◌++◌, length, take, min}
 use Rattle.std.specs.List.{list_any}
 use Rattle.sim_outside.specs.Faults.{next_count}
 use Rattle.sim_outside.specs.declared.source.Failed.{Failed}
@@ -38,3 +38,7 @@ after_write state piece =
       written = state.written ++ take count piece;
       room = state.room - count;
     }
+
+-- a write answers so, and leaves the sink so
+abbrev pub IsMemWrite : SinkState → List ℕ → Result ℕ Failed → SinkState → Type 0
+IsMemWrite state piece answer after = (answer ≡ write_answer state (length piece)) × (after ≡ after_write state piece)

@@ -1,5 +1,5 @@
 -- A source whose bytes lie in memory: what its next read does.
-use Rattle.std.specs.Prelude.{ℕ, ◌==◌, if◌then◌else◌, Bool, Result, Ok, Err, List, length, drop, min}
+use Rattle.std.specs.Prelude.{◌≡◌, ℕ, ◌==◌, if◌then◌else◌, Bool, Result, Ok, Err, List, length, take, drop, min}
 use Rattle.std.specs.List.{list_any}
 use Rattle.sim_outside.specs.Faults.{next_count}
 use Rattle.sim_outside.specs.declared.source.Failed.{Failed}
@@ -31,3 +31,11 @@ after_read state len =
     if fails_next state
     then record state { calls = next_count state.calls; faults = next_count state.faults }
     else record state { calls = next_count state.calls; left = drop (read_len state len) state.left }
+
+-- the bytes that the next read gives into a buffer of so many bytes, or that it fails
+abbrev pub read_gives : SourceState → ℕ → Result (List ℕ) Failed
+read_gives state len = if fails_next state then Err (record {}) else Ok (take (read_len state len) state.left)
+
+-- a read gives these bytes, and leaves the source so
+abbrev pub IsMemRead : SourceState → ℕ → Result (List ℕ) Failed → SourceState → Type 0
+IsMemRead state len given after = (given ≡ read_gives state len) × (after ≡ after_read state len)

@@ -1,3 +1,4 @@
+//! The text of a number.
 ghost use Rattle.std.specs.Prelude.{◌≡◌, ◌++◌, decimal, OnOk, OnErr};
 
 use std::alloc::{AllocError, Global};

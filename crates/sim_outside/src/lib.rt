@@ -13,8 +13,7 @@ mod sink;
 mod source;
 mod std_sink;
 mod std_source;
-#[cfg(test)]
-mod tests;
+mod ticks;
 mod writing;
 
 pub use bytes::Bytes;
@@ -26,4 +25,5 @@ pub use sink::Sink;
 pub use source::{Failed, Source};
 pub use std_sink::StdSink;
 pub use std_source::StdSource;
+pub use ticks::push_ticks;
 pub use writing::write_all;

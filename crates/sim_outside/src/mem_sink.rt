@@ -1,7 +1,8 @@
-ghost use Rattle.std.specs.Prelude.{◌≡◌, ◌≤◌, [], length, IfOk, OnErr, Some};
+//! A sink in memory.
+ghost use Rattle.std.specs.Prelude.{◌≡◌, ◌≤◌, [], length, IfOk, OnOk, OnErr, Some};
 ghost use Rattle.sim_outside.specs.Faults.{Rose};
 ghost use Rattle.sim_outside.specs.Sink.{IsTaken, Writes};
-ghost use Rattle.sim_outside.specs.MemSink.{SinkState, write_answer, after_write};
+ghost use Rattle.sim_outside.specs.MemSink.{SinkState, write_answer, after_write, IsMemWrite};
 
 use crate::sink::Sink;
 use crate::source::Failed;
@@ -93,6 +94,8 @@ impl Sink for MemSink {
 
     ghost faults = { λ s. s.faults };
 
+    ghost one_write = { IsMemWrite };
+
     fn write(&mut self, piece: &[u8]) -> Result<usize, Failed>
         ensures answer { result ≡ write_answer self.old (length piece.now) }
         ensures state { self.new ≡ after_write self.old piece.now }
@@ -100,6 +103,8 @@ impl Sink for MemSink {
         // What each sink ensures.
         ensures count { IfOk result (IsTaken (length piece.now)) }
         ensures bytes { Writes (Some self.old.written) (Some self.new.written) result piece.now }
+        ensures called { IsMemWrite self.old piece.now result self.new }
+        ensures counted { OnOk result (self.new.faults ≡ self.old.faults) }
         ensures failed { OnErr result (Rose self.old.faults self.new.faults) }
         ensures never_falls { self.old.faults ≤ self.new.faults }
     {

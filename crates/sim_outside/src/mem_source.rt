@@ -1,7 +1,9 @@
-ghost use Rattle.std.specs.Prelude.{◌≡◌, ◌≤◌, length, take, IfOk, OnErr, Some};
+//! A source in memory.
+ghost use Rattle.std.specs.Prelude.{◌≡◌, ◌≤◌, length, take, IfOk, OnOk, OnErr, Some};
 ghost use Rattle.sim_outside.specs.Faults.{Rose};
 ghost use Rattle.sim_outside.specs.Source.{Reads};
-ghost use Rattle.sim_outside.specs.MemSource.{SourceState, read_answer, after_read};
+ghost use Rattle.sim_outside.specs.MemSource.{SourceState, read_answer, after_read, IsMemRead};
+ghost use Rattle.sim_outside.specs.Readings.{bytes_given};
 
 use crate::source::{Failed, Source};
 use std::alloc::{AllocError, Global};
@@ -90,6 +92,8 @@ impl Source for MemSource {
 
     ghost faults = { λ s. s.faults };
 
+    ghost one_read = { IsMemRead };
+
     fn read(&mut self, buf: &mut [u8]) -> Result<usize, Failed>
         ensures answer { result ≡ read_answer self.old (length buf.old) }
         ensures state { self.new ≡ after_read self.old (length buf.old) }
@@ -98,6 +102,8 @@ impl Source for MemSource {
         // What each source ensures.
         ensures count { IfOk result (λ count. count ≤ length buf.old) }
         ensures bytes { Reads (Some self.old.left) (Some self.new.left) result buf.new }
+        ensures called { IsMemRead self.old (length buf.old) (bytes_given result buf.new) self.new }
+        ensures counted { OnOk result (self.new.faults ≡ self.old.faults) }
         ensures failed { OnErr result (Rose self.old.faults self.new.faults) }
         ensures never_falls { self.old.faults ≤ self.new.faults }
     {

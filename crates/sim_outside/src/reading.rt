@@ -1,6 +1,8 @@
-ghost use Rattle.std.specs.Prelude.{◌≡◌, ◌+◌, ◌^◌, ◌<◌, ◌≤◌, length, take, drop, IfOk, OnErr, IsErrOf};
+//! Reading a source to its end.
+ghost use Rattle.std.specs.Prelude.{◌≡◌, ◌+◌, ◌-◌, ◌^◌, ◌<◌, ◌≤◌, length, take, drop, IfOk, OnOk, OnErr, IsErrOf};
 ghost use Rattle.sim_outside.specs.Faults.{Rose};
 ghost use Rattle.sim_outside.specs.ReadAll.{ReadsToEnd};
+ghost use Rattle.sim_outside.specs.Readings.{ReadsOnly, bytes_given};
 ghost use Rattle.sim_outside.specs.Source.{Reads};
 
 use crate::bytes::Bytes;
@@ -24,11 +26,16 @@ pub enum ReadEnd {
 
 /// Reads `source` to its end, which comes within `limit` bytes, or is `TooLong`.
 ///
-/// The memory for `limit + 1` bytes is taken before the first read.
+/// The memory for `limit + 1` bytes is taken before the first read. Each read is given room for all the bytes that
+/// may still come. No read comes after the end, after one that fails, or once there is one byte too many.
 pub fn read_all<S: Source>(alloc: Global, source: &mut S, limit: usize) -> Result<Bytes, ReadEnd>
     requires { limit < 2 ^ 32 }
     ensures told { ReadsToEnd (S.left source.old) (S.left source.new) limit result }
     ensures len { IfOk result (λ bytes. length bytes ≤ limit) }
+    ensures reads { ReadsOnly S.one_read source.old limit result source.new }
+    ensures none_failed { OnOk result (S.faults source.new ≡ S.faults source.old) }
+    ensures none_failed_too_long { IsErrOf result ReadEnd.TooLong
+        → S.faults source.new ≡ S.faults source.old }
     ensures fault { IsErrOf result ReadEnd.ReadFault
         → Rose (S.faults source.old) (S.faults source.new) }
     ensures memory { IsErrOf result ReadEnd.Memory → source.new ≡ source.old }
@@ -57,6 +64,9 @@ fn read_behind<S: Source>(source: &mut S, buffer: &mut [u8], filled: usize) -> R
     ensures count { IfOk result (λ count. filled + count ≤ length buffer.old) }
     ensures front { take filled buffer.new ≡ take filled buffer.old }
     ensures bytes { Reads (S.left source.old) (S.left source.new) result (drop filled buffer.new) }
+    ensures called { S.one_read source.old (length buffer.old - filled)
+        (bytes_given result (drop filled buffer.new)) source.new }
+    ensures counted { OnOk result (S.faults source.new ≡ S.faults source.old) }
     ensures failed { OnErr result (Rose (S.faults source.old) (S.faults source.new)) }
     ensures never_falls { S.faults source.old ≤ S.faults source.new }
 {

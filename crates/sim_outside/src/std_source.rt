@@ -1,40 +1,35 @@
-ghost use Rattle.std.specs.Prelude.{◌≡◌, ◌≤◌, None, length, IfOk, OnErr, MatchResult};
-ghost use Rattle.sim_outside.specs.Faults.{Rose, next_count};
+//! The standard library's readers as sources.
+ghost use Rattle.std.specs.Prelude.{◌≡◌, ◌≤◌, None, length, IfOk, OnOk, OnErr};
+ghost use Rattle.sim_outside.specs.Faults.{Rose};
+ghost use Rattle.sim_outside.specs.Readings.{bytes_given};
 ghost use Rattle.sim_outside.specs.Source.{Reads};
+ghost use Rattle.sim_outside.specs.StdDevices.{reader_of, read_faults, IsStdRead};
 
 use crate::source::{Failed, Source};
 use std::io::Read;
-use std::marker::Model;
 
-/// A reader of the standard library, such as standard input, as a source. It tells no bytes.
+/// A reader of the standard library, such as standard input, as a source. To `Source` it tells no bytes.
 ///
-/// Contracts see it as the count of its faults. Each read is one call of the reader, and an
-/// interrupted one is a fault.
+/// Each read is one call of the reader, of which `IsStdRead` speaks in the standard library's words. An interrupted one
+/// is a fault.
 #[derive(Drop)]
 pub struct StdSource<R> {
     reader: R,
     faults: u64,
 }
 
-impl<R> Model for StdSource<R> {
-    ghost use Rattle.std.specs.Prelude.{ℕ};
-
-    ghost Value = { ℕ };
-
-    ghost view = { λ s. s.faults };
-}
-
 impl<R> StdSource<R> {
     /// A source that reads from `reader`.
     pub fn make(reader: R) -> StdSource<R>
-        ensures { result ≡ 0 }
+        ensures reader { reader_of result ≡ reader }
+        ensures faults { read_faults result ≡ 0 }
     {
         StdSource { reader, faults: 0 }
     }
 
     /// How many calls failed, up to 2^64 - 1.
     pub fn faults(&self) -> u64
-        ensures { result ≡ self.now }
+        ensures { result ≡ read_faults self.now }
     {
         self.faults
     }
@@ -43,18 +38,19 @@ impl<R> StdSource<R> {
 impl<R: Read> Source for StdSource<R> {
     ghost left = { λ _. None };
 
-    ghost faults = { λ faults. faults };
+    ghost faults = { read_faults };
+
+    ghost one_read = { IsStdRead R.remaining };
 
     fn read(&mut self, buf: &mut [u8]) -> Result<usize, Failed>
-        ensures faults { MatchResult result
-            (λ _. self.new ≡ self.old)
-            (λ _. self.new ≡ next_count self.old) }
-
         // What each source ensures.
         ensures count { IfOk result (λ count. count ≤ length buf.old) }
         ensures bytes { Reads None None result buf.new }
-        ensures failed { OnErr result (Rose self.old self.new) }
-        ensures never_falls { self.old ≤ self.new }
+        ensures called { IsStdRead R.remaining self.old (length buf.old)
+            (bytes_given result buf.new) self.new }
+        ensures counted { OnOk result (read_faults self.new ≡ read_faults self.old) }
+        ensures failed { OnErr result (Rose (read_faults self.old) (read_faults self.new)) }
+        ensures never_falls { read_faults self.old ≤ read_faults self.new }
     {
         match self.reader.read(buf) {
             Ok(count) => Ok(count),

@@ -6,7 +6,7 @@ use Rattle.std.proofs.lemmas.Option.{slice_get_within}
 use Rattle.std.proofs.lemmas.Result.{err_from_is_err_and}
 use Rattle.pepa_resolver.specs.Graphs.{IsMarked}
 use Rattle.pepa_checks.specs.ActivityLists.{LeafChoices, outline}
-use Rattle.pepa_checks.proofs.LeafCounting.{below_at}
+use Rattle.pepa_checks.proofs.SizeCounting.{below_at}
 use Rattle.pepa_checks.proofs.ListsMaking.{kept_none, none_marked}
 use Rattle.pepa_checks.proofs.Performances.{constant_leaf}
 use Rattle.pepa_checks.proofs.SoundLists.{sizes_after, marked_after, still_after, sound_after, end_after, ready_in_order, ready_behind, all_in_order, are_performed, operands_at, unset_at, ready_more, set_apart_from, made_more}

@@ -7,7 +7,7 @@ use Rattle.pepa_resolver.specs.NamedTypes.{named_of, bodies_of}
 use Rattle.pepa_checks.specs.Outline.{outline_of, sets_of}
 use Rattle.pepa_checks.specs.Activities.{written_leaves}
 use Rattle.pepa_checks.specs.LeavesAnswers.{AreLeaves}
-use Rattle.pepa_checks.proofs.Countings.{choices, performed_end, many_system, counts, few_keys}
+use Rattle.pepa_checks.proofs.Countings.{choices, performed_end, many_leaves_in, many_nodes_in, counts, few_keys}
 use Rattle.pepa_checks.proofs.counting.count.Goals as goal
 
 pub leaves_of-requires-clause-sequential : goal.leaves_of-requires-clause-sequential
@@ -30,8 +30,14 @@ returns-in_err-performed c =
     (choices (keys file.actions) file.compounds (bodies_of file.bodies) (named_of file.system) file.compound_order file.sequential_order c.requires.built c.requires.compounds c.requires.sequential c.in_ok-leaves.leaves are) in
     rw (p.1, p.2) (performed_end (keys file.actions) file.compounds (bodies_of file.bodies) (named_of file.system) file.compound_order file.sequential_order c.requires.built c.requires.compounds c.requires.sequential c.in_ok-leaves.leaves are c.in_err-performed.field-0.0 told)
 
-pub has_many_leaves-requires-clause-below : goal.has_many_leaves-requires-clause-below
-has_many_leaves-requires-clause-below c d among =
+pub is_too_large-requires-clause-below : goal.is_too_large-requires-clause-below
+is_too_large-requires-clause-below c d among =
+    let file = c.args.file.now in
+    let lt = c.requires.built.known (named_of file.system) (Contains-push (bodies_of file.bodies) (named_of file.system)) d among in
+    omega (arith, lt, length-map file.bodies named_of, ap length c.as_slice-bodies.ensures)
+
+pub is_too_large-requires-2-clause-below : goal.is_too_large-requires-2-clause-below
+is_too_large-requires-2-clause-below c d among =
     let file = c.args.file.now in
     let lt = c.requires.built.known (named_of file.system) (Contains-push (bodies_of file.bodies) (named_of file.system)) d among in
     omega (arith, lt, length-map file.bodies named_of, ap length c.as_slice-bodies.ensures)
@@ -39,19 +45,26 @@ has_many_leaves-requires-clause-below c d among =
 pub returns-then-branch : goal.returns-then-branch
 returns-then-branch c =
     let file = c.args.file.now in
-    let told = rw (c.as_slice-compounds.ensures, c.as_slice-bodies.ensures) at c.in_ok-has_many_leaves.ensures (sets_of (bodies_of file.bodies) (named_of file.system)) in
-    many_system (keys file.actions) file.compounds (bodies_of file.bodies) (named_of file.system) file.compound_order file.sequential_order c.requires.built c.requires.compounds c.requires.sequential c.in_ok-has_many_leaves.field-0 told c.if-branch.true
+    let told = rw (c.as_slice-compounds.ensures, c.as_slice-bodies.ensures) at c.in_ok-is_too_large.ensures (sets_of (bodies_of file.bodies) (named_of file.system)) in
+    many_leaves_in (keys file.actions) file.compounds (bodies_of file.bodies) (named_of file.system) file.compound_order file.sequential_order c.requires.built c.requires.compounds c.requires.sequential c.in_ok-is_too_large.field-0 told c.if-branch.true
+
+pub returns-then-branch-2 : goal.returns-then-branch-2
+returns-then-branch-2 c =
+    let file = c.args.file.now in
+    let told = rw (c.as_slice-compounds.ensures, c.as_slice-bodies.ensures) at c.in_ok-is_too_large-2.ensures (sets_of (bodies_of file.bodies) (named_of file.system)) in
+    many_nodes_in (keys file.actions) file.compounds (bodies_of file.bodies) (named_of file.system) file.compound_order file.sequential_order c.requires.built c.requires.compounds c.requires.sequential c.in_ok-is_too_large-2.field-0 told c.if-branch-2.true
 
 pub returns : goal.returns
 returns c =
     let file = c.args.file.now in
     let are = rw (c.as_slice-compounds.ensures, c.as_slice-bodies.ensures) at c.in_ok-leaves.ensures (sets_of (bodies_of c.args.file.now.bodies) (named_of c.args.file.now.system)) in
-    let told = rw (c.as_slice-compounds.ensures, c.as_slice-bodies.ensures) at c.in_ok-has_many_leaves.ensures (sets_of (bodies_of file.bodies) (named_of file.system)) in
+    let told = rw (c.as_slice-compounds.ensures, c.as_slice-bodies.ensures) at c.in_ok-is_too_large.ensures (sets_of (bodies_of file.bodies) (named_of file.system)) in
+    let told_too = rw (c.as_slice-compounds.ensures, c.as_slice-bodies.ensures) at c.in_ok-is_too_large-2.ensures (sets_of (bodies_of file.bodies) (named_of file.system)) in
     let performed = rw (c.as_slice-compounds.ensures, c.as_slice-order.ensures, c.as_slice-constants.ensures, c.as_slice.ensures) at c.in_ok-performed.ensures.performed
     (choices (keys file.actions) file.compounds (bodies_of file.bodies) (named_of file.system) file.compound_order file.sequential_order c.requires.built c.requires.compounds c.requires.sequential c.in_ok-leaves.leaves are) in
     let few_actions : length (keys file.actions) ≤ 1025 = few_keys file.actions.entries 1025 c.len.result c.len.ensures.len c.if-len.false in
     let few_sets : length (keys c.in_ok-sets.sets) ≤ 1024 = few_keys c.in_ok-sets.sets.entries 1024 c.len-2.result c.len-2.ensures.len c.if-len-gt-MOST_SETS.false in
     let sets_are = rw (c.as_slice-bodies.ensures) at c.in_ok-sets.ensures in
     counts (keys file.actions) file.compounds (bodies_of file.bodies) (named_of file.system) file.compound_order file.sequential_order c.requires.built c.requires.compounds c.requires.sequential
-    (record { sets = c.in_ok-sets.sets; leaves = c.in_ok-leaves.leaves; performed = c.in_ok-performed.performed }) c.in_ok-has_many_leaves.field-0
-    few_actions sets_are few_sets are performed c.in_ok-performed.ensures.few told c.if-branch.false
+    (record { sets = c.in_ok-sets.sets; leaves = c.in_ok-leaves.leaves; performed = c.in_ok-performed.performed }) c.in_ok-is_too_large.field-0 c.in_ok-is_too_large-2.field-0
+    few_actions sets_are few_sets are performed c.in_ok-performed.ensures.few told c.if-branch.false told_too c.if-branch-2.false

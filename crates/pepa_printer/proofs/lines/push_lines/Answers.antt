@@ -14,6 +14,6 @@ loop-constant-preserved c =
     let m = c.args.model.now in
     let n = c.loop-constant.constant in
     let within : n < length m.constants = omega (arith, c.loop-constant-test.true, c.constant_count-constant-end.ensures, c.is_sound.ensures.bodies) in
-    ap (λ (text : List ℕ). text ++ lines_text m (drop (n + 1) m.constants) (drop (n + 1) m.bodies)) c.in_ok-push_line.ensures
+    ap (λ (text : List ℕ). text ++ lines_text m (drop (n + 1) m.constants) (drop (n + 1) m.bodies)) c.in_ok-push_line.ensures.text
     ∙ line_written m m.constants m.bodies n (definition_of c.body.result.now) c.loop-constant.to.items
     (c.args.to.now.items ++ lines_text m m.constants m.bodies) within c.body.ensures c.loop-constant.invariant

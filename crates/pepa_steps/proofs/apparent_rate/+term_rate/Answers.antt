@@ -1,9 +1,9 @@
 -- A term answers for its tree from the answers for the trees of its parts.
-use Rattle.std.proofs.Common.{ap}
+use Rattle.std.proofs.Common.{ap, refl}
 use Rattle.std.proofs.lemmas.Result.{err_from_is_err_and}
 use Rattle.pepa_model.specs.Terms.{term_of}
 use Rattle.pepa_steps.proofs.Opening.{leaf_can_open}
-use Rattle.pepa_steps.proofs.StateApparent.{leaf_answers, left_fault, right_fault, coop_answers, inner_fault}
+use Rattle.pepa_steps.proofs.StateApparent.{leaf_answers, left_fault, right_fault, coop_answers, inner_fault, hide_answers}
 use Rattle.pepa_steps.proofs.apparent_rate.+term_rate.Goals as goal
 
 pub component_rate-requires : goal.component_rate-requires
@@ -36,3 +36,8 @@ returns-in_ok-right-in-Coop t c =
     (rw c.deref.ensures at c.in_ok-left-in-Coop.ensures)
     (rw c.deref-in-Coop.ensures at c.in_ok-right-in-Coop.ensures)
     c.rate_of_cooperation.ensures
+
+pub returns-in_ok-inner-in-Hide : goal.returns-in_ok-inner-in-Hide
+returns-in_ok-inner-in-Hide t c =
+    hide_answers _ c.args.model.now _ _ _ c.types_of-in-Hide.result.now _ _ _ (ap term_of c.in-Hide.is) c.types_of-in-Hide.ensures.is refl
+    (rw c.deref-in-Hide.ensures at c.in_ok-inner-in-Hide.ensures) c.rate_of_hiding.ensures

@@ -1,4 +1,4 @@
-use Rattle.std.proofs.Common.{rules, append_assoc, subst, ◌≡◌, List, ℕ, Some, slice_get, get_or}
+use Rattle.std.proofs.Common.{rules, append_assoc}
 use Rattle.std.proofs.lemmas.Result.{IfOk-equal}
 use Rattle.std.proofs.lemmas.Option.{get_or_from_slice_get}
 use Rattle.pepa_model.specs.Expression.{Const, expression_of}
@@ -10,9 +10,8 @@ push_expression-requires t c = (c.is_sound.ensures.leaves c.in-Leaf.leaf (expres
 pub returns-in-Leaf : goal.returns-in-Leaf
 returns-in-Leaf t c =
     let same = get_or_from_slice_get c.args.model.now.leaves c.in-Leaf.leaf (expression_of c.leaf.result.now) (Const 0) c.leaf.ensures in
-    rw (c.in-Leaf.is, same) c.push_expression.ensures
+    rw (c.in-Leaf.is, same) c.push_expression.ensures.text
 
 pub returns-in_ok-push_term-in-Coop-2 : goal.returns-in_ok-push_term-in-Coop-2
 returns-in_ok-push_term-in-Coop-2 t c =
-    let brackets = c.is_cooperation-brackets.ensures c.args.model.now in
     search (rules, IfOk-equal, append_assoc)

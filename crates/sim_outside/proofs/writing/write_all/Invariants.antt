@@ -1,13 +1,15 @@
-use Rattle.std.proofs.Common.{length, take, ◌-◌, ◌≤◌}
+use Rattle.std.proofs.Common.{◌≡◌, length, take, drop, ◌-◌, ◌≤◌}
 use Rattle.sim_outside.specs.Sink.{Grows}
+use Rattle.sim_outside.proofs.Chains.{WroteTo}
 use Rattle.sim_outside.proofs.writing.write_all.Given as goal
 
--- what was taken so far is a front of the piece, and the sink has grown by it
+-- what was taken so far is a front of the piece, by writes alone that were offered the rest each time, and the sink has grown by it
 abbrev pub invariant-loop-taken : goal.invariant-loop-taken
 invariant-loop-taken g l = record {
   in_piece : l.taken ≤ length l.piece;
   grown : Grows (g.K.Sink.written l.fn.sink) (g.K.Sink.written l.sink) (take l.taken l.piece);
-  never_falls : g.K.Sink.faults l.fn.sink ≤ g.K.Sink.faults l.sink;
+  wrote : WroteTo g.K.Sink.one_write l.fn.sink l.piece l.sink (drop l.taken l.piece);
+  none_failed : g.K.Sink.faults l.sink ≡ g.K.Sink.faults l.fn.sink;
 }
 
 abbrev pub decreases-loop-taken : goal.decreases-loop-taken

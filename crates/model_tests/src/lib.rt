@@ -1,0 +1,11 @@
+//! Tests of rates, of names and terms, and of the printed texts of models.
+//!
+//! They call public functions alone, and have a crate of their own since a crate with tests is proved twice.
+#![tactic(auto)]
+
+#[cfg(test)]
+mod models;
+#[cfg(test)]
+mod printed_texts;
+#[cfg(test)]
+mod rates;
