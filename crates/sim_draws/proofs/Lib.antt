@@ -1,0 +1,5 @@
+pub mod NumberLists
+pub mod Rounds
+pub mod Runs
+pub mod Limits
+pub mod UsedNumbers
