@@ -1,0 +1,12 @@
+pub mod Numbering
+pub mod Exploration
+pub mod Unions
+pub mod FirstPlaces
+pub mod FilterSteps
+pub mod SignalSteps
+pub mod Candidates
+pub mod Tables
+pub mod HeardPositions
+pub mod Entries
+pub mod Hears
+pub mod OneTable

@@ -1,0 +1,5 @@
+pub mod Exploring
+pub mod Filters
+pub mod Signals
+pub mod Builds
+pub mod TableMoves

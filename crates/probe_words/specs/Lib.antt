@@ -1,0 +1,15 @@
+pub mod Guards
+pub mod MarkedLetters
+pub mod Words
+pub mod WordKinds
+pub mod Sizes
+pub mod Core
+pub mod CoreForm
+pub mod Paths
+pub mod Sets
+pub mod Twins
+pub mod PositionsOf
+pub mod Hearing
+pub mod TableShape
+pub mod ProbeTables
+pub mod Laying

@@ -1,0 +1,29 @@
+#!/usr/bin/env bash
+# The second program for probe expressions (probes.py): its positions spell its own words, on some thousands of random expressions, and the
+# tables in crates/probe_tests are what it writes. The tests of that crate compare the program with these tables.
+# shellcheck source=tests/common.bash
+. "$(dirname -- "$0")/common.bash"
+
+# The generated file must be what the second program writes for these words.
+is_written() {
+    if python3 tests/probes.py "${@:2}" | cmp -s - "$1"; then
+        passed
+    else
+        failed "$1 isn't what tests/probes.py writes"
+    fi
+}
+
+if command -v python3 >"$work/nothing"; then
+    if python3 tests/probes.py agree 3000; then
+        passed
+    else
+        failed "positions and words of the second program differ"
+    fi
+    is_written crates/probe_tests/src/position_table.rt positions
+    for number in 1 2 3 4; do
+        is_written "crates/probe_tests/src/heard/table_$number.rt" hearing "$number"
+    done
+else
+    skipped "there is no python3"
+fi
+finish
