@@ -1,0 +1,5 @@
+-- The call begins in the phase that was computed.
+use Rattle.chain_rule.proofs.stepping.step_store_one.Given as goal
+
+abbrev pub ghosts-advance : goal.ghosts-advance
+ghosts-advance g a = record { begins = a.begins.now }

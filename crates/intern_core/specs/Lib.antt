@@ -1,0 +1,10 @@
+pub mod Layout
+pub mod History
+pub mod Image
+pub mod Turns
+pub mod Kept
+pub mod Blocks
+pub mod Machine
+pub mod Pace
+pub mod Nexts
+pub mod Offers
