@@ -5,3 +5,4 @@ pub mod Passing
 pub mod Splitting
 pub mod NewPasses
 pub mod Finding
+pub mod ListFinding

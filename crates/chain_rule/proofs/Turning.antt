@@ -1,8 +1,8 @@
 -- A pass may take its next turn: it keeps the rule, and is told what the turn was.
-use Rattle.std.proofs.Common.{◌≡◌, ◌≢◌, ℕ, zero, suc, ◌<◌, ◌≤◌, ◌==◌, nat_lt, ◌⊎◌, inl, inr, ⊎_elim, Bool, true, false, cond, List, [], ◌∷◌, ◌++◌, length, set, set-set, refl, sym, ap, ◌∙◌, subst, arith, slice_index, append-nil, Option, Some, None, IfSome, subst₂, length-set}
+use Rattle.std.proofs.Common.{◌≡◌, ◌≢◌, ℕ, zero, suc, ◌+◌, ◌*◌, ◌<◌, ◌≤◌, ◌==◌, nat_lt, nat_le, ◌⊎◌, inl, inr, ⊎_elim, Bool, true, false, cond, List, [], ◌∷◌, ◌++◌, length, set, set-set, refl, sym, ap, ◌∙◌, subst, arith, slice_index, append-nil, Option, Some, None, IfSome, is_some, subst₂, length-set}
 use mathlib.Core.Option.{some}
 use lib.ListN.{get_elem?}
-use Rattle.std.proofs.lemmas.Bool.{cond_both, eq-eqb, ne_eqb, true≢false}
+use Rattle.std.proofs.lemmas.Bool.{cond_both, eq-eqb, ne_eqb, leb-false}
 use Rattle.atomic_table.specs.Table.{State, Allows, Me, keeps}
 use Rattle.atomic_table.proofs.Lists.{at_set, set_again}
 use Rattle.intern_core.specs.declared.shape.Shape.{Shape}
@@ -11,127 +11,205 @@ use Rattle.intern_core.specs.declared.history.Reply.{Reply}
 use Rattle.intern_core.specs.declared.history.Reply.TheVariants.{Num, Full}
 use Rattle.intern_core.specs.declared.history.Entry.{Entry}
 use Rattle.intern_core.specs.declared.history.EntryWords.{EntryWords}
-use Rattle.intern_core.specs.declared.history.Entry.TheVariants.{Call}
-use Rattle.intern_core.specs.declared.seat.Seat.{Seat}
+use Rattle.intern_core.specs.declared.history.Entry.TheVariants.{Call, Lost}
+use Rattle.intern_core.specs.declared.history.Entry.TheVariants as entry
+use Rattle.intern_core.specs.declared.outcome.Outcome2.{Outcome2}
+use Rattle.intern_core.specs.declared.outcome.Outcome2.TheVariants.{Going, Answered, Found, Length, Got, Offered}
+use Rattle.intern_core.specs.declared.outcome.Published.TheVariants.{First, Already, NoRoom}
+use Rattle.intern_core.specs.declared.seat.SeatWithOffer.{SeatWithOffer}
 use Rattle.intern_core.specs.declared.seat.Phase.{Phase}
-use Rattle.intern_core.specs.declared.seat.Phase.TheVariants.{Idle, Claiming, StoringOne, StoringTwo, Linking, Swapping, AtOne, AtTwo, LookingOne, LookingTwo}
-use Rattle.intern_core.specs.History.{known, uses, known_after, IsLegal, listing_in}
-use Rattle.intern_core.specs.Turns.{Turn, seat, next_place, turn_of, turn_in, first_phase, linked, swapped, is_on_lists}
+use Rattle.intern_core.specs.declared.seat.Phase.TheVariants.{Idle, Claiming, StoringOne, StoringTwo, Linking, Swapping, AtOne, AtTwo, LookingOne, LookingTwo, MeasuringList, FindingEntry, ReadingOne, ReadingTwo, ReadingThree, Offering, ClaimingBlock, StoringWord, SwappingList}
+use Rattle.intern_core.specs.Layout.{entries_at}
+use Rattle.intern_core.specs.History.{known, uses, known_after, listing_in}
+use Rattle.intern_core.specs.Image.{flat, list_word}
+use Rattle.intern_core.specs.Turns.{Turn, seat, next_place, next_place_in, turn_of, turn_in, first_phase, linked, swapped, offered, published, storing, length_in, start_in}
 use Rattle.intern_core.specs.Kept.{Kept, HasReached}
+use Rattle.intern_core.specs.Blocks.{taken_by, claimed_in, covers_in, IsLongerThan, HasListed, KeptLists}
+use Rattle.intern_core.specs.Machine.{with_offer, seats_of}
 use Rattle.intern_core.specs.Pace.{key_in}
-use Rattle.intern_core.proofs.Histories.{known_after-append, uses_after}
-use Rattle.intern_core.proofs.Steps.{kept_quiet}
-use Rattle.intern_core.proofs.Turning.{kept_turn}
+use Rattle.intern_core.proofs.Histories.{known_after-append, uses_after, taken-append, listing_known}
+use Rattle.intern_core.proofs.ListSteps.{at_map, quiet_both}
+use Rattle.intern_core.proofs.BothTurns.{both_turn}
+use Rattle.intern_core.proofs.Rooms.{claim_low}
 use Rattle.intern_core.proofs.Walks.{ask_reached}
 use Rattle.chain_rule.specs.declared.meaning.Setting.{Setting}
 use Rattle.chain_rule.specs.declared.view.View.{View}
-use Rattle.chain_rule.specs.Rule.{IsFront, own, seats_of, Means, MeansAfter, Walks, Knows, Counts, Ruled}
-use Rattle.chain_rule.specs.Told.{phase_begun, seat_begun, view_begun, moved, MayBegin, Turned}
-use Rattle.chain_rule.proofs.Views.{Place, place_of_pass, front_self, front_more, own-append, means_more, at_again}
+use Rattle.chain_rule.specs.Rule.{IsFront, pass_of, own, block_in, no_room, IsCrowded, offering_seats, Means, MeansAfter, Walks, Knows, Counts, Ruled}
+use Rattle.chain_rule.specs.Told.{phase_begun, seat_begun, offer_begun, view_begun, moved, MayBeginCall, MayTell, Turned}
+use Rattle.chain_rule.proofs.Views.{Place, place_of_pass, front_self, front_more, own-append, means_more, at_again, listing_front, longer_is}
 
--- which entries a turn makes, and of which key the call goes on, which is no call on lists
-pub record Made (p : ℕ) (phase : Phase) (t : Turn) : Type 0 where
-  pub made : (t.made ≡ []) ⊎ ((key : Key) × (a : Reply) × (t.made ≡ Call p key a ∷ []) × (key_in phase ≡ Some key))
+-- the number of an offer in flight that has found no list
+abbrev pub offered_in : Phase → Option ℕ
+offered_in (ClaimingBlock number len) = Some number
+offered_in (StoringWord number start len stored) = Some number
+offered_in (SwappingList number start len) = Some number
+offered_in other = None
+
+-- which entry a turn makes
+abbrev pub MakesEntry : ℕ → List EntryWords → Phase → Entry → Type 0
+MakesEntry p offer phase e =
+    ((key : Key) × (a : Reply) × (e ≡ Call p key a) × (key_in phase ≡ Some key))
+    ⊎ ((n : ℕ) × (e ≡ entry.List p n offer) × (block_in phase ≡ Some n))
+    ⊎ ((n len : ℕ) × (e ≡ Lost p n len))
+
+made_by : (p : ℕ) (offer : List EntryWords) (phase : Phase) (e : Entry) → MakesEntry p offer phase e → pass_of e ≡ p
+made_by p offer phase e (inl h) = ap pass_of h.2
+made_by p offer phase e (inr (inl h)) = ap pass_of h.1
+made_by p offer phase e (inr (inr h)) = ap pass_of h.2
+
+-- what a turn makes, and how the call goes on
+pub record Made (shape : Shape) (offer : List EntryWords) (p : ℕ) (r : Option ℕ) (marked : Bool) (phase : Phase) (v : ℕ) (t : Turn) : Type 0 where
+  pub made : (t.made ≡ []) ⊎ ((e : Entry) × (t.made ≡ e ∷ []) × MakesEntry p offer phase e)
   pub call : (key_in t.seat.phase ≡ None) ⊎ (key_in t.seat.phase ≡ key_in phase)
-  pub off_lists : is_on_lists t.seat.phase ≡ false
+  pub block : (block_in t.seat.phase ≡ None) ⊎ (block_in t.seat.phase ≡ offered_in phase)
+  pub pass : t.seat.pass ≡ p
+  pub refused : (t.seat.refused ≡ r) ⊎ ((number len : ℕ) × (phase ≡ ClaimingBlock number len) × (shape.entries < v + len))
+  pub mark : marked ≡ true → t.seat.marked ≡ true
 
-made_linked : (p : ℕ) (r : Option ℕ) (spare : ℕ) (marked : Bool) (key : Key) (from passed v : ℕ) → Made p (Linking key from passed) (linked p r spare marked key from passed v)
-made_linked p r spare true key from passed zero = record { made = inr (key, Full, refl, refl); call = inl refl; off_lists = refl }
-made_linked p r spare false key from passed zero = record { made = inl refl; call = inr refl; off_lists = refl }
-made_linked p r spare true key from passed (suc n) = record { made = inl refl; call = inr refl; off_lists = refl }
-made_linked p r spare false key from passed (suc n) = record { made = inl refl; call = inr refl; off_lists = refl }
+module _ (shape : Shape) (offer : List EntryWords) (p : ℕ) where
+  -- a turn without an entry
+  quiet : (r : Option ℕ) (spare : ℕ) (marked : Bool) (phase after : Phase) (v word : ℕ) (outcome : Outcome2) → (key_in after ≡ None) ⊎ (key_in after ≡ key_in phase)
+      → (block_in after ≡ None) ⊎ (block_in after ≡ offered_in phase)
+      → Made shape offer p r marked phase v (record { word = word; seat = seat p r spare marked after; made = []; outcome = outcome })
+  quiet r spare marked phase after v word outcome call block = record { made = inl refl; call = call; block = block; pass = refl; refused = inl refl; mark = λ m. m }
 
-made_swapped : (p : ℕ) (r : Option ℕ) (spare : ℕ) (marked : Bool) (key : Key) (from passed v : ℕ) → Made p (Swapping key from passed) (swapped p r spare marked key passed v)
-made_swapped p r spare marked key from passed zero = record { made = inr (key, Num spare, refl, refl); call = inl refl; off_lists = refl }
-made_swapped p r spare marked key from passed (suc n) = record { made = inl refl; call = inr refl; off_lists = refl }
+  -- a turn that ends a call with an entry
+  ends : (r : Option ℕ) (spare : ℕ) (marked : Bool) (phase : Phase) (v word : ℕ) (outcome : Outcome2) (e : Entry) → MakesEntry p offer phase e
+      → Made shape offer p r marked phase v (record { word = word; seat = seat p r spare marked Idle; made = e ∷ []; outcome = outcome })
+  ends r spare marked phase v word outcome e makes = record { made = inr (e, refl, makes); call = inl refl; block = inl refl; pass = refl; refused = inl refl; mark = λ m. m }
 
-pub turn_made : (shape : Shape) (p : ℕ) (r : Option ℕ) (spare : ℕ) (marked : Bool) (phase : Phase) (v : ℕ) → is_on_lists phase ≡ false → Made p phase (turn_in shape [] p r spare marked phase v)
-turn_made shape p r spare marked Idle v off = record { made = inl refl; call = inl refl; off_lists = refl }
-turn_made shape p r spare marked (Claiming key) v off =
-    cond_both (nat_lt v shape.nodes) _ _ (Made p (Claiming key)) (λ e. record { made = inl refl; call = inr refl; off_lists = refl }) (λ e. record { made = inl refl; call = inr refl; off_lists = refl })
-turn_made shape p r spare marked (StoringOne key) v off = record { made = inl refl; call = inr refl; off_lists = refl }
-turn_made shape p r spare marked (StoringTwo key) v off = record { made = inl refl; call = inr refl; off_lists = refl }
-turn_made shape p r spare marked (Linking key from passed) v off = made_linked p r spare marked key from passed v
-turn_made shape p r spare marked (Swapping key from passed) v off = made_swapped p r spare marked key from passed v
-turn_made shape p r spare marked (AtOne key node passed) v off = record {
-  made = inl refl;
-  call = cond_both (v == key.one) _ _ (λ (ph : Phase). (key_in ph ≡ None) ⊎ (key_in ph ≡ Some key)) (λ e. inr refl) (λ e. inr refl);
-  off_lists = cond_both (v == key.one) _ _ (λ (ph : Phase). is_on_lists ph ≡ false) (λ e. refl) (λ e. refl);
-}
-turn_made shape p r spare marked (AtTwo key node passed) v off =
-    cond_both (v == key.two) _ _ (Made p (AtTwo key node passed)) (λ e. record { made = inr (key, Num node, refl, refl); call = inl refl; off_lists = refl }) (λ e. record { made = inl refl; call = inr refl; off_lists = refl })
-turn_made shape p r spare marked (LookingOne node) v off = record { made = inl refl; call = inl refl; off_lists = refl }
-turn_made shape p r spare marked (LookingTwo node one) v off = record { made = inl refl; call = inl refl; off_lists = refl }
-turn_made shape p r spare marked other v off = absurd (true≢false off)
+  made_linked : (r : Option ℕ) (spare : ℕ) (marked : Bool) (key : Key) (from passed v : ℕ) → Made shape offer p r marked (Linking key from passed) v (linked p r spare marked key from passed v)
+  made_linked r spare true key from passed zero = ends r spare true (Linking key from passed) 0 0 (Answered Full) (Call p key Full) (inl (key, Full, refl, refl))
+  made_linked r spare false key from passed zero = quiet r spare false (Linking key from passed) (Swapping key from passed) 0 0 Going (inr refl) (inl refl)
+  made_linked r spare true key from passed (suc n) = quiet r spare true (Linking key from passed) (AtOne key (suc n) passed) (suc n) (suc n) Going (inr refl) (inl refl)
+  made_linked r spare false key from passed (suc n) = quiet r spare false (Linking key from passed) (AtOne key (suc n) passed) (suc n) (suc n) Going (inr refl) (inl refl)
 
--- a turn leaves the pass
-pub turn_pass : (shape : Shape) (p : ℕ) (r : Option ℕ) (spare : ℕ) (marked : Bool) (phase : Phase) (v : ℕ) → is_on_lists phase ≡ false → (turn_in shape [] p r spare marked phase v).seat.pass ≡ p
-turn_pass shape p r spare marked Idle v off = refl
-turn_pass shape p r spare marked (Claiming key) v off = cond_both (nat_lt v shape.nodes) _ _ (λ (t : Turn). t.seat.pass ≡ p) (λ e. refl) (λ e. refl)
-turn_pass shape p r spare marked (StoringOne key) v off = refl
-turn_pass shape p r spare marked (StoringTwo key) v off = refl
-turn_pass shape p r spare marked (Linking key from passed) v off = pass_linked marked v where
-  pass_linked : (m : Bool) (n : ℕ) → (linked p r spare m key from passed n).seat.pass ≡ p
-  pass_linked true zero = refl
-  pass_linked false zero = refl
-  pass_linked true (suc n) = refl
-  pass_linked false (suc n) = refl
-turn_pass shape p r spare marked (Swapping key from passed) v off = pass_swapped v where
-  pass_swapped : (n : ℕ) → (swapped p r spare marked key passed n).seat.pass ≡ p
-  pass_swapped zero = refl
-  pass_swapped (suc n) = refl
-turn_pass shape p r spare marked (AtOne key node passed) v off = refl
-turn_pass shape p r spare marked (AtTwo key node passed) v off = cond_both (v == key.two) _ _ (λ (t : Turn). t.seat.pass ≡ p) (λ e. refl) (λ e. refl)
-turn_pass shape p r spare marked (LookingOne node) v off = refl
-turn_pass shape p r spare marked (LookingTwo node one) v off = refl
-turn_pass shape p r spare marked other v off = absurd (true≢false off)
+  made_swapped : (r : Option ℕ) (spare : ℕ) (marked : Bool) (key : Key) (from passed v : ℕ) → Made shape offer p r marked (Swapping key from passed) v (swapped p r spare marked key passed v)
+  made_swapped r spare marked key from passed zero = ends r 0 marked (Swapping key from passed) 0 spare (Answered (Num spare)) (Call p key (Num spare)) (inl (key, Num spare, refl, refl))
+  made_swapped r spare marked key from passed (suc n) = quiet r spare marked (Swapping key from passed) (AtOne key (suc n) passed) (suc n) (suc n) Going (inr refl) (inl refl)
 
-own_same : (p : ℕ) (key : Key) (a : Reply) → own p (Call p key a ∷ []) ≡ Call p key a ∷ []
-own_same p key a = ap (λ t. cond t (Call p key a ∷ []) []) (eq-eqb p p refl)
+  made_offered : (r : Option ℕ) (spare : ℕ) (marked : Bool) (number len v : ℕ) → Made shape offer p r marked (Offering number len) v (offered p r spare marked number len v)
+  made_offered None spare marked number len zero = quiet None spare marked (Offering number len) (ClaimingBlock number len) 0 0 Going (inl refl) (inl refl)
+  made_offered (Some r) spare marked number len zero = quiet (Some r) spare marked (Offering number len) Idle 0 0 (Offered NoRoom) (inl refl) (inl refl)
+  made_offered None spare marked number len (suc n) = quiet None spare marked (Offering number len) Idle (suc n) (suc n) (Offered Already) (inl refl) (inl refl)
+  made_offered (Some r) spare marked number len (suc n) = quiet (Some r) spare marked (Offering number len) Idle (suc n) (suc n) (Offered Already) (inl refl) (inl refl)
 
-own_other : (q p : ℕ) (key : Key) (a : Reply) → q ≢ p → own q (Call p key a ∷ []) ≡ []
-own_other q p key a ne = ap (λ t. cond t (Call p key a ∷ []) []) (ne_eqb p q (λ e. ne (sym e)))
+  made_published : (r : Option ℕ) (spare : ℕ) (marked : Bool) (number start len v : ℕ) → Made shape offer p r marked (SwappingList number start len) v (published p r spare marked offer number start len v)
+  made_published r spare marked number start len zero =
+      ends r spare marked (SwappingList number start len) 0 (list_word start len) (Offered First) (entry.List p number offer) (inr (inl (number, refl, refl)))
+  made_published r spare marked number start len (suc n) =
+      ends r spare marked (SwappingList number start len) (suc n) (suc n) (Offered Already) (Lost p number len) (inr (inr (number, len, refl)))
 
--- a call that begins is no call on lists
-first_off : (spare : ℕ) (marked : Bool) (key : Key) → is_on_lists (first_phase spare marked key) ≡ false
-first_off spare true key = refl
-first_off zero false key = refl
-first_off (suc n) false key = refl
+  -- once so many words are stored
+  made_storing : (r : Option ℕ) (spare : ℕ) (marked : Bool) (phase : Phase) (v word number start len stored : ℕ) → offered_in phase ≡ Some number
+      → Made shape offer p r marked phase v (record { word = word; seat = seat p r spare marked (storing number start len stored); made = []; outcome = Going })
+  made_storing r spare marked phase v word number start len stored is = quiet r spare marked phase (storing number start len stored) v word Going
+      (cond_both (nat_lt stored (3 * len)) _ _ (λ (ph : Phase). (key_in ph ≡ None) ⊎ (key_in ph ≡ key_in phase)) (λ e. inl refl) (λ e. inl refl))
+      (cond_both (nat_lt stored (3 * len)) _ _ (λ (ph : Phase). (block_in ph ≡ None) ⊎ (block_in ph ≡ offered_in phase)) (λ e. inr (sym is)) (λ e. inr (sym is)))
 
-module _ {M : Type 0} (lawful : M → List Entry → Key → Type 0) (allowed : M → Key → Type 0) (stands : M → List Entry → ℕ → List EntryWords → Type 0) (key : Setting M) (v : View M) (begins : Phase) where
-  begins_off : MayBegin lawful allowed stands key v begins → is_on_lists begins ≡ false
-  begins_off (inl h) = ap is_on_lists h.1 ∙ first_off v.seat.spare v.seat.marked h.0
-  begins_off (inr (inl h)) = ap is_on_lists h.1
-  begins_off (inr (inr h)) = ap is_on_lists h
+  pub turn_made : (r : Option ℕ) (spare : ℕ) (marked : Bool) (phase : Phase) (v : ℕ) → Made shape offer p r marked phase v (turn_in shape offer p r spare marked phase v)
+  turn_made r spare marked Idle v = quiet r spare marked Idle Idle v v Going (inl refl) (inl refl)
+  turn_made r spare marked (Claiming key) v = cond_both (nat_lt v shape.nodes) _ _ (Made shape offer p r marked (Claiming key) v)
+      (λ e. quiet r (v + 1) marked (Claiming key) (StoringOne key) v (v + 1) Going (inr refl) (inl refl))
+      (λ e. record { made = inl refl; call = inr refl; block = inl refl; pass = refl; refused = inl refl; mark = λ m. refl })
+  turn_made r spare marked (StoringOne key) v = quiet r spare marked (StoringOne key) (StoringTwo key) v key.one Going (inr refl) (inl refl)
+  turn_made r spare marked (StoringTwo key) v = quiet r spare marked (StoringTwo key) (Linking key 0 0) v key.two Going (inr refl) (inl refl)
+  turn_made r spare marked (Linking key from passed) v = made_linked r spare marked key from passed v
+  turn_made r spare marked (Swapping key from passed) v = made_swapped r spare marked key from passed v
+  turn_made r spare marked (AtOne key node passed) v = record {
+    made = inl refl;
+    call = cond_both (v == key.one) _ _ (λ (ph : Phase). (key_in ph ≡ None) ⊎ (key_in ph ≡ Some key)) (λ e. inr refl) (λ e. inr refl);
+    block = cond_both (v == key.one) _ _ (λ (ph : Phase). (block_in ph ≡ None) ⊎ (block_in ph ≡ None)) (λ e. inl refl) (λ e. inl refl);
+    pass = refl;
+    refused = inl refl;
+    mark = λ m. m;
+  }
+  turn_made r spare marked (AtTwo key node passed) v = cond_both (v == key.two) _ _ (Made shape offer p r marked (AtTwo key node passed) v)
+      (λ e. ends r spare marked (AtTwo key node passed) v v (Answered (Num node)) (Call p key (Num node)) (inl (key, Num node, refl, refl)))
+      (λ e. quiet r spare marked (AtTwo key node passed) (Linking key node (passed + 1)) v v Going (inr refl) (inl refl))
+  turn_made r spare marked (LookingOne node) v = quiet r spare marked (LookingOne node) (LookingTwo node v) v v Going (inl refl) (inl refl)
+  turn_made r spare marked (LookingTwo node one) v = quiet r spare marked (LookingTwo node one) Idle v v (Found (record { one = one; two = v })) (inl refl) (inl refl)
+  turn_made r spare marked (MeasuringList number) v = quiet r spare marked (MeasuringList number) Idle v v (Length (length_in v)) (inl refl) (inl refl)
+  turn_made r spare marked (FindingEntry number at) v = quiet r spare marked (FindingEntry number at) (ReadingOne number at (start_in v + at)) v v Going (inl refl) (inl refl)
+  turn_made r spare marked (ReadingOne number at index) v = quiet r spare marked (ReadingOne number at index) (ReadingTwo number at index v) v v Going (inl refl) (inl refl)
+  turn_made r spare marked (ReadingTwo number at index one) v = quiet r spare marked (ReadingTwo number at index one) (ReadingThree number at index one v) v v Going (inl refl) (inl refl)
+  turn_made r spare marked (ReadingThree number at index one two) v = quiet r spare marked (ReadingThree number at index one two) Idle v v (Got (record { 0 = one ∷ two ∷ v ∷ [] })) (inl refl) (inl refl)
+  turn_made r spare marked (Offering number len) v = made_offered r spare marked number len v
+  turn_made r spare marked (ClaimingBlock number len) v = cond_both (nat_le (v + len) shape.entries) _ _ (Made shape offer p r marked (ClaimingBlock number len) v)
+      (λ e. made_storing r spare marked (ClaimingBlock number len) v (v + len) number v len 0 refl)
+      (λ e. record {
+        made = inl refl;
+        call = inl refl;
+        block = inl refl;
+        pass = refl;
+        refused = inr (number, len, refl, leb-false (v + len) shape.entries e);
+        mark = λ m. m;
+      })
+  turn_made r spare marked (StoringWord number start len stored) v =
+      made_storing r spare marked (StoringWord number start len stored) v (slice_index (flat offer) stored) number start len (stored + 1) refl
+  turn_made r spare marked (SwappingList number start len) v = made_published r spare marked number start len v
 
-  -- a pass that makes no call on lists makes none once its call has begun
-  pub begun_off : (phase : Phase) → is_on_lists phase ≡ false → (phase ≡ Idle → MayBegin lawful allowed stands key v begins) → is_on_lists (phase_begun begins phase) ≡ false
-  begun_off Idle off may = begins_off (may refl)
-  begun_off other off may = off
+  -- a turn leaves the pass
+  pub turn_pass : (r : Option ℕ) (spare : ℕ) (marked : Bool) (phase : Phase) (v : ℕ) → (turn_in shape offer p r spare marked phase v).seat.pass ≡ p
+  turn_pass r spare marked phase v = (turn_made r spare marked phase v).pass
+
+-- a phase without a block
+abbrev Plain : Phase → Type 0
+Plain ph = (block_in ph ≡ None) × (offered_in ph ≡ None) × (claimed_in ph ≡ 0) × ((index : ℕ) → covers_in ph index ≡ 0)
+
+first_plain : (spare : ℕ) (marked : Bool) (key : Key) → Plain (first_phase spare marked key)
+first_plain spare true key = (refl, refl, refl, (λ i. refl))
+first_plain zero false key = (refl, refl, refl, (λ i. refl))
+first_plain (suc n) false key = (refl, refl, refl, (λ i. refl))
+
+first_listed : (shape : Shape) (words : List ℕ) (history : List Entry) (p : ℕ) (r : Option ℕ) (offer : List EntryWords) (spare : ℕ) (marked : Bool) (key : Key)
+    → HasListed shape words history p r offer (first_phase spare marked key)
+first_listed shape words history p r offer spare true key = tt
+first_listed shape words history p r offer zero false key = tt
+first_listed shape words history p r offer (suc n) false key = tt
+
+module _ {M : Type 0} (lawful : M → List Entry → Key → Type 0) (allowed : M → Key → Type 0) (stands : M → List Entry → ℕ → List EntryWords → Type 0) (key : Setting M) (v : View M) (begins : Phase) (told : List EntryWords) where
+  begins_plain : MayBeginCall lawful allowed stands key v begins told → Plain begins
+  begins_plain (inl h) = subst Plain (sym h.1) (first_plain v.seat.spare v.seat.marked h.0)
+  begins_plain (inr (inl h)) = subst Plain (sym h.1) (refl, refl, refl, (λ i. refl))
+  begins_plain (inr (inr (inl h))) = subst Plain (sym h) (refl, refl, refl, (λ i. refl))
+  begins_plain (inr (inr (inr (inl h)))) = subst Plain (sym h.1) (refl, refl, refl, (λ i. refl))
+  begins_plain (inr (inr (inr (inr (inl h))))) = subst Plain (sym h.2) (refl, refl, refl, (λ i. refl))
+  begins_plain (inr (inr (inr (inr (inr h))))) = subst Plain (sym h.1) (refl, refl, refl, (λ i. refl))
+
+  -- what is offered stands for the number
+  begun_ready : (phase : Phase) (offer : List EntryWords) → (phase ≡ Idle → MayBeginCall lawful allowed stands key v begins told) → MayTell lawful allowed stands key v.front told phase
+      → IfSome (block_in phase) (λ n. stands key.meaning v.front n offer)
+      → IfSome (offered_in (phase_begun begins told phase)) (λ n. stands key.meaning v.front n (offer_begun told phase offer))
+  begun_ready Idle offer may tell block = subst (λ o. IfSome o (λ n. stands key.meaning v.front n told)) (sym (begins_plain (may refl)).1) tt
+  begun_ready (ClaimingBlock number len) offer may tell block = tell.1
+  begun_ready (StoringWord number start len stored) offer may tell block = block
+  begun_ready (SwappingList number start len) offer may tell block = block
+  begun_ready other offer may tell block = tt
 
 -- the word that is left is the one of the turn, wherever the rule holds
 abbrev pub Leaves : {M : Type 0} → Setting M → View M → ℕ → (ℕ → ℕ) → Type 0
-Leaves key v place f = (words : List ℕ) (seats : List Seat) (history : List Entry) (i : ℕ) → Kept key.shape words seats history → get_elem? seats i ≡ some v.seat
-    → f (slice_index words place) ≡ (turn_of key.shape [] v.seat (slice_index words place)).word
+Leaves key v place f = (words : List ℕ) (seats : List SeatWithOffer) (history : List Entry) (i : ℕ) → Kept key.shape words (seats_of seats) history
+    → KeptLists key.shape words seats history → get_elem? seats i ≡ some (with_offer v.seat v.offer)
+    → f (slice_index words place) ≡ (turn_of key.shape v.offer v.seat (slice_index words place)).word
 
-module _ {M : Type 0} (lawful : M → List Entry → Key → Type 0) (allowed : M → Key → Type 0) (stands : M → List Entry → ℕ → List EntryWords → Type 0)
-    (stays : (m : M) (h more : List Entry) (k : Key) → lawful m h k → lawful m (h ++ more) k) (key : Setting M) where
-  lawful_on : (f h : List Entry) (call : Option Key) → IsFront f h → IfSome call (λ k. lawful key.meaning f k × allowed key.meaning k)
-      → IfSome call (λ k. lawful key.meaning h k × allowed key.meaning k)
-  lawful_on f h None front ok = tt
-  lawful_on f h (Some k) front ok = (subst (λ l. lawful key.meaning l k) (sym front.1) (stays key.meaning f front.0 k ok.0), ok.1)
+-- a crowded front stays so
+pub crowded_on : (shape : Shape) (f h : List Entry) → IsFront f h → IsCrowded shape f → IsCrowded shape h
+crowded_on shape f h front crowded = let e : taken_by h ≡ taken_by f + taken_by front.0 = ap taken_by front.1 ∙ taken-append f front.0 in omega arith
 
-module _ {M : Type 0} (lawful : M → List Entry → Key → Type 0) (allowed : M → Key → Type 0) (stands : M → List Entry → ℕ → List EntryWords → Type 0)
-    (stays : (m : M) (h more : List Entry) (k : Key) → lawful m h k → lawful m (h ++ more) k) {S : Type 0} (key : Setting M) where
+module _ {M : Type 0} (lawful : M → List Entry → Key → Type 0) (allowed : M → Key → Type 0) (stands : M → List Entry → ℕ → List EntryWords → Type 0) {S : Type 0} (key : Setting M) where
   -- one pass and the words change, and the history goes on
   pub ruled_set : (s : State S (View M)) (r : Ruled lawful allowed stands key s) (id : ℕ) (v w : View M) → get_elem? s.views id ≡ some v → v.walks ≡ true → w.walks ≡ true
-      → w.seat.pass ≡ v.seat.pass → w.made ≡ v.made → (place : Place s.views id v) (words : List ℕ) (history : List Entry) → Kept key.shape words (set (seats_of s.views) place.at w.seat) history
+      → w.seat.pass ≡ v.seat.pass → w.made ≡ v.made → (place : Place s.views id v) (words : List ℕ) (history : List Entry)
+      → Kept key.shape words (seats_of (set (offering_seats s.views) place.at (with_offer w.seat w.offer))) history
+      → KeptLists key.shape words (set (offering_seats s.views) place.at (with_offer w.seat w.offer)) history
       → MeansAfter lawful allowed stands key.meaning [] history → IsFront r.history history → Knows lawful allowed stands key history w
       → ((q : ℕ) → q ≢ v.seat.pass → own q history ≡ own q r.history)
       → Ruled lawful allowed stands key record { words = words; homes = s.homes; views = set s.views id w }
-  ruled_set s r id v w at walks walks' same same_made place words history kept means longer knows others = record {
+  ruled_set s r id v w at walks walks' same same_made place words history kept lists means longer knows others = record {
     history = history;
-    kept = subst (λ l. Kept key.shape words l history) (sym (place.changed w walks')) kept;
+    kept = subst (λ l. Kept key.shape words (seats_of l) history) (sym (place.changed w walks')) kept;
+    lists = subst (λ l. KeptLists key.shape words l history) (sym (place.changed w walks')) lists;
     means = means;
     views = λ j x there. ⊎_elim
         (λ (h : (j ≡ id) × (w ≡ x)). subst (Knows lawful allowed stands key history) h.1 knows)
@@ -145,7 +223,8 @@ module _ {M : Type 0} (lawful : M → List Entry → Key → Type 0) (allowed : 
             mine = others x.seat.pass (λ e. h.0 (r.apart j id x v h.1 at y walks e)) ∙ g.mine;
             seen = g.seen;
             call = g.call;
-            off_lists = g.off_lists;
+            block = g.block;
+            crowded = g.crowded;
           };
         })
         (at_set s.views id j w x there);
@@ -167,7 +246,7 @@ module _ {M : Type 0} (lawful : M → List Entry → Key → Type 0) (allowed : 
   } where
     counts_on : (x y : View M) → Counts lawful allowed stands r.history s.views x → y.made ≡ x.made → Counts lawful allowed stands history (set s.views id w) y
     counts_on x y c e = record {
-      many = ap length (place.changed w walks') ∙ length-set (seats_of s.views) place.at w.seat ∙ c.many ∙ sym e;
+      many = ap length (place.changed w walks') ∙ length-set (offering_seats s.views) place.at (with_offer w.seat w.offer) ∙ c.many ∙ sym e;
       below = λ j u there uw. ⊎_elim
           (λ (h : (j ≡ id) × (w ≡ u)). let low = c.below id v at walks in let n : w.seat.pass < y.made = subst₂ (λ a b. a < b) (sym same) (sym e) low in subst (λ (z : View M). z.seat.pass < y.made) h.1 n)
           (λ (h : (j ≢ id) × (get_elem? s.views j ≡ some u)). subst (λ n. u.seat.pass < n) (sym e) (c.below j u h.1 uw))
@@ -175,13 +254,29 @@ module _ {M : Type 0} (lawful : M → List Entry → Key → Type 0) (allowed : 
       silent = λ p high. let low = c.below id v at walks in let high' : x.made ≤ p = subst (λ n. n ≤ p) e high in others p (λ z. absurd (omega arith)) ∙ c.silent p high';
     }
 
+module _ {M : Type 0} (lawful : M → List Entry → Key → Type 0) (allowed : M → Key → Type 0) (stands : M → List Entry → ℕ → List EntryWords → Type 0)
+    (stays : (m : M) (h more : List Entry) (k : Key) → lawful m h k → lawful m (h ++ more) k)
+    (standing : (m : M) (h more : List Entry) (n : ℕ) (ws : List EntryWords) → stands m h n ws → stands m (h ++ more) n ws) (key : Setting M) where
+  lawful_on : (f h : List Entry) (call : Option Key) → IsFront f h → IfSome call (λ k. lawful key.meaning f k × allowed key.meaning k)
+      → IfSome call (λ k. lawful key.meaning h k × allowed key.meaning k)
+  lawful_on f h None front ok = tt
+  lawful_on f h (Some k) front ok = (subst (λ l. lawful key.meaning l k) (sym front.1) (stays key.meaning f front.0 k ok.0), ok.1)
+
+  standing_on : (f h : List Entry) (o : Option ℕ) (ws : List EntryWords) → IsFront f h → IfSome o (λ n. stands key.meaning f n ws) → IfSome o (λ n. stands key.meaning h n ws)
+  standing_on f h None ws front ok = tt
+  standing_on f h (Some n) ws front ok = subst (λ l. stands key.meaning l n ws) (sym front.1) (standing key.meaning f front.0 n ws ok)
+
+module _ {M : Type 0} (lawful : M → List Entry → Key → Type 0) (allowed : M → Key → Type 0) (stands : M → List Entry → ℕ → List EntryWords → Type 0)
+    (stays : (m : M) (h more : List Entry) (k : Key) → lawful m h k → lawful m (h ++ more) k)
+    (standing : (m : M) (h more : List Entry) (n : ℕ) (ws : List EntryWords) → stands m h n ws → stands m (h ++ more) n ws) {S : Type 0} (key : Setting M) where
   -- a turn of a pass
-  module _ (s : State S (View M)) (r : Ruled lawful allowed stands key s) (id : ℕ) (v : View M) (at : get_elem? s.views id ≡ some v) (walks : v.walks ≡ true) where
+  module _ (s : State S (View M)) (r : Ruled lawful allowed stands key s) (id : ℕ) (v : View M) (at : get_elem? s.views id ≡ some v) (walks : v.walks ≡ true)
+      (ready : IfSome (offered_in v.seat.phase) (λ n. stands key.meaning v.front n v.offer)) where
     abbrev found : ℕ
     found = slice_index s.words (next_place key.shape v.seat)
 
     abbrev goes : Turn
-    goes = turn_of key.shape [] v.seat found
+    goes = turn_of key.shape v.offer v.seat found
 
     walker : Walks lawful allowed stands key r.history v
     walker = (r.views id v at).walker walks
@@ -189,31 +284,53 @@ module _ {M : Type 0} (lawful : M → List Entry → Key → Type 0) (allowed : 
     new_front : IsFront v.front r.history
     new_front = (r.views id v at).front
 
-    made : Made v.seat.pass v.seat.phase goes
-    made = turn_made key.shape v.seat.pass v.seat.refused v.seat.spare v.seat.marked v.seat.phase found walker.off_lists
-
-    same_pass : goes.seat.pass ≡ v.seat.pass
-    same_pass = turn_pass key.shape v.seat.pass v.seat.refused v.seat.spare v.seat.marked v.seat.phase found walker.off_lists
+    made : Made key.shape v.offer v.seat.pass v.seat.refused v.seat.marked v.seat.phase found goes
+    made = turn_made key.shape v.offer v.seat.pass v.seat.refused v.seat.spare v.seat.marked v.seat.phase found
 
     owns : (own v.seat.pass goes.made ≡ goes.made) × ((q : ℕ) → q ≢ v.seat.pass → own q goes.made ≡ [])
     owns = ⊎_elim
         (λ (e : goes.made ≡ []). (ap (own v.seat.pass) e ∙ sym e, λ q ne. ap (own q) e))
-        (λ (h : (k : Key) × (a : Reply) × (goes.made ≡ Call v.seat.pass k a ∷ []) × (key_in v.seat.phase ≡ Some k)).
-        (ap (own v.seat.pass) h.2 ∙ own_same v.seat.pass h.0 h.1 ∙ sym h.2, λ q ne. ap (own q) h.2 ∙ own_other q v.seat.pass h.0 h.1 ne))
+        (λ (h : (e : Entry) × (goes.made ≡ e ∷ []) × MakesEntry v.seat.pass v.offer v.seat.phase e).
+        let by = made_by v.seat.pass v.offer v.seat.phase h.0 h.2 in (
+          ap (own v.seat.pass) h.1 ∙ ap (λ t. cond t (h.0 ∷ []) []) (eq-eqb (pass_of h.0) v.seat.pass by) ∙ sym h.1,
+          λ q ne. ap (own q) h.1 ∙ ap (λ t. cond t (h.0 ∷ []) []) (ne_eqb (pass_of h.0) q (λ e. ne (sym e ∙ by))),
+        ))
         made.made
 
     means_call : (k : Key) (a : Reply) → lawful key.meaning r.history k × allowed key.meaning k → Means lawful allowed stands key.meaning r.history (Call v.seat.pass k a)
     means_call k (Num n) ok = λ none. ok
     means_call k Full ok = tt
 
+    means_entry : (e : Entry) → MakesEntry v.seat.pass v.offer v.seat.phase e → Means lawful allowed stands key.meaning r.history e
+    means_entry e (inl h) = subst (Means lawful allowed stands key.meaning r.history) (sym h.2)
+        (means_call h.0 h.1 (subst (λ o. IfSome o (λ k. lawful key.meaning r.history k × allowed key.meaning k)) h.3 (lawful_on lawful allowed stands stays standing key v.front r.history (key_in v.seat.phase) new_front walker.call)))
+    means_entry e (inr (inl h)) = subst (Means lawful allowed stands key.meaning r.history) (sym h.1)
+        (subst (λ o. IfSome o (λ n. stands key.meaning r.history n v.offer)) h.2 (standing_on lawful allowed stands stays standing key v.front r.history (block_in v.seat.phase) v.offer new_front walker.block))
+    means_entry e (inr (inr h)) = subst (Means lawful allowed stands key.meaning r.history) (sym h.2) tt
+
     pub turn_means : MeansAfter lawful allowed stands key.meaning [] (r.history ++ goes.made)
     turn_means = ⊎_elim
         (λ (e : goes.made ≡ []). subst (MeansAfter lawful allowed stands key.meaning []) (sym (ap (λ l. r.history ++ l) e ∙ append-nil r.history)) r.means)
-        (λ (h : (k : Key) × (a : Reply) × (goes.made ≡ Call v.seat.pass k a ∷ []) × (key_in v.seat.phase ≡ Some k)).
-        subst (λ l. MeansAfter lawful allowed stands key.meaning [] (r.history ++ l)) (sym h.2)
-        (means_more lawful allowed stands key.meaning [] r.history (Call v.seat.pass h.0 h.1) r.means
-        (means_call h.0 h.1 (subst (λ o. IfSome o (λ k. lawful key.meaning r.history k × allowed key.meaning k)) h.3 (lawful_on lawful allowed stands stays key v.front r.history (key_in v.seat.phase) new_front walker.call)))))
+        (λ (h : (e : Entry) × (goes.made ≡ e ∷ []) × MakesEntry v.seat.pass v.offer v.seat.phase e).
+        subst (λ l. MeansAfter lawful allowed stands key.meaning [] (r.history ++ l)) (sym h.1)
+        (means_more lawful allowed stands key.meaning [] r.history h.0 r.means (means_entry h.0 h.2)))
         made.made
+
+    -- a front is crowded once a block is refused
+    pub turn_crowded : no_room goes.seat ≡ true → IsCrowded key.shape (r.history ++ goes.made)
+    turn_crowded none = ⊎_elim
+        (λ (e : goes.seat.refused ≡ v.seat.refused).
+        crowded_on key.shape v.front (r.history ++ goes.made) (front_more v.front r.history goes.made new_front) (walker.crowded (sym (ap (λ (o : Option ℕ). is_some o) e) ∙ none)))
+        (λ (h : (number len : ℕ) × (v.seat.phase ≡ ClaimingBlock number len) × (key.shape.entries < found + len)).
+        let place = place_of_pass s.views id v at walks in
+        let there = subst (λ ph. get_elem? (offering_seats s.views) place.at ≡ some (with_offer (seat v.seat.pass v.seat.refused v.seat.spare v.seat.marked ph) v.offer)) h.2 place.seat_there in
+        let low = claim_low key.shape s.words (offering_seats s.views) r.history r.lists r.kept place.at v.seat.pass v.seat.refused v.seat.spare v.seat.marked v.offer h.0 h.1 there in
+        let read : found ≡ slice_index s.words entries_at = ap (λ ph. slice_index s.words (next_place_in key.shape v.seat.spare ph)) h.2 in
+        let claimed = low.0 in
+        let small = low.1 in
+        let over = h.3 in
+        omega (arith, taken-append r.history goes.made))
+        made.refused
 
     pub ruled_turn : Ruled lawful allowed stands key record {
       words = set s.words (next_place key.shape v.seat) goes.word;
@@ -222,46 +339,69 @@ module _ {M : Type 0} (lawful : M → List Entry → Key → Type 0) (allowed : 
     }
     ruled_turn =
         let place = place_of_pass s.views id v at walks in
-        let p = kept_turn key.shape s.words (seats_of s.views) r.history r.kept place.at [] v.seat walker.off_lists place.seat_there in
-        ruled_set s r id v (moved v r.history goes) at walks walks same_pass refl place (set s.words (next_place key.shape v.seat) goes.word) (r.history ++ goes.made) p turn_means
+        let p = both_turn key.shape s.words (offering_seats s.views) r.history r.kept r.lists place.at v.seat.pass v.seat.refused v.seat.spare v.seat.marked v.offer v.seat.phase place.seat_there in
+        let mine : own goes.seat.pass (r.history ++ goes.made) ≡ v.mine ++ goes.made =
+        ap (λ n. own n (r.history ++ goes.made)) made.pass ∙ own-append v.seat.pass r.history goes.made ∙ ap (λ l. l ++ own v.seat.pass goes.made) walker.mine ∙ ap (λ l. v.mine ++ l) owns.0 in
+        let on : IsFront v.front (r.history ++ goes.made) = front_more v.front r.history goes.made new_front in
+        ruled_set lawful allowed stands key s r id v (moved v r.history goes) at walks walks made.pass refl place (set s.words (next_place key.shape v.seat) goes.word) (r.history ++ goes.made) p.0 p.1 turn_means
         (goes.made, refl)
         (record {
           front = front_self (r.history ++ goes.made);
           met = front_more v.met r.history goes.made (r.views id v at).met;
           walker = λ _. record {
             setting = walker.setting;
-            mine = ap (λ n. own n (r.history ++ goes.made)) same_pass ∙ own-append v.seat.pass r.history goes.made ∙ ap (λ l. l ++ own v.seat.pass goes.made) walker.mine ∙ ap (λ l. v.mine ++ l) owns.0;
-            seen = ap (λ n. own n (r.history ++ goes.made)) same_pass ∙ own-append v.seat.pass r.history goes.made ∙ ap (λ l. l ++ own v.seat.pass goes.made) walker.mine ∙ ap (λ l. v.mine ++ l) owns.0;
+            mine = mine;
+            seen = mine;
             call = ⊎_elim
                 (λ (e : key_in goes.seat.phase ≡ None). subst (λ o. IfSome o (λ k. lawful key.meaning (r.history ++ goes.made) k × allowed key.meaning k)) (sym e) tt)
                 (λ (e : key_in goes.seat.phase ≡ key_in v.seat.phase). subst (λ o. IfSome o (λ k. lawful key.meaning (r.history ++ goes.made) k × allowed key.meaning k)) (sym e)
-                (lawful_on lawful allowed stands stays key v.front (r.history ++ goes.made) (key_in v.seat.phase) (front_more v.front r.history goes.made new_front) walker.call))
+                (lawful_on lawful allowed stands stays standing key v.front (r.history ++ goes.made) (key_in v.seat.phase) on walker.call))
                 made.call;
-            off_lists = made.off_lists;
+            block = ⊎_elim
+                (λ (e : block_in goes.seat.phase ≡ None). subst (λ o. IfSome o (λ n. stands key.meaning (r.history ++ goes.made) n v.offer)) (sym e) tt)
+                (λ (e : block_in goes.seat.phase ≡ offered_in v.seat.phase). subst (λ o. IfSome o (λ n. stands key.meaning (r.history ++ goes.made) n v.offer)) (sym e)
+                (standing_on lawful allowed stands stays standing key v.front (r.history ++ goes.made) (offered_in v.seat.phase) v.offer on ready))
+                made.block;
+            crowded = turn_crowded;
           };
         })
         (λ q ne. own-append q r.history goes.made ∙ ap (λ l. own q r.history ++ l) (owns.1 q ne) ∙ append-nil (own q r.history))
 
-  -- a call begins
-  begin_in : (s : State S (View M)) (r : Ruled lawful allowed stands key s) (id : ℕ) (u : View M) (phase : Phase) (begins : Phase)
+  -- a call begins, or the words of an offer are told
+  begin_in : (s : State S (View M)) (r : Ruled lawful allowed stands key s) (id : ℕ) (u : View M) (phase : Phase) (begins : Phase) (told : List EntryWords)
       → get_elem? s.views id ≡ some (record u { seat = seat u.seat.pass u.seat.refused u.seat.spare u.seat.marked phase }) → u.walks ≡ true
-      → (phase ≡ Idle → MayBegin lawful allowed stands key u begins)
-      → Ruled lawful allowed stands key record { words = s.words; homes = s.homes; views = set s.views id (record u { seat = seat u.seat.pass u.seat.refused u.seat.spare u.seat.marked (phase_begun begins phase) }) }
-  begin_in s r id u Idle begins at walks may =
+      → (phase ≡ Idle → MayBeginCall lawful allowed stands key u begins told) → MayTell lawful allowed stands key u.front told phase
+      → Ruled lawful allowed stands key record {
+        words = s.words;
+        homes = s.homes;
+        views = set s.views id (record u { seat = seat u.seat.pass u.seat.refused u.seat.spare u.seat.marked (phase_begun begins told phase); offer = offer_begun told phase u.offer });
+      }
+  begin_in s r id u Idle begins told at walks may tell =
       let v = record u { seat = seat u.seat.pass u.seat.refused u.seat.spare u.seat.marked Idle } in
-      let w = record u { seat = seat u.seat.pass u.seat.refused u.seat.spare u.seat.marked begins } in
+      let w = record u { seat = seat u.seat.pass u.seat.refused u.seat.spare u.seat.marked begins; offer = told } in
       let place = place_of_pass s.views id v at walks in
       let k = r.views id v at in
       let g = k.walker walks in
-      let seen = known r.history in
-      let can : HasReached key.shape s.words seen u.seat.spare u.seat.marked begins × IfSome (key_in begins) (λ x. lawful key.meaning u.front x × allowed key.meaning x) =
-      can_begin (may refl) in
-      let quiet = kept_quiet key.shape s.words (seats_of s.views) r.history r.kept place.at u.seat.pass u.seat.refused u.seat.spare u.seat.marked Idle begins [] place.seat_there
-      (ap known (append-nil r.history)) (λ n. ap (λ l. listing_in l n) (append-nil r.history)) (subst (IsLegal key.shape) (sym (append-nil r.history)) r.kept.legal) can.0 in
-      ruled_set s r id v w at walks walks refl refl place s.words r.history
-      (subst (Kept key.shape s.words (set (seats_of s.views) place.at w.seat)) (append-nil r.history) quiet)
+      let plain = begins_plain lawful allowed stands key u begins told (may refl) in
+      let can : After begins = can_begin (may refl) in
+      let both = quiet_both key.shape s.words (offering_seats s.views) r.history r.kept r.lists place.at u.seat.pass u.seat.refused u.seat.spare u.seat.marked u.offer told Idle begins place.seat_there
+      refl plain.2 (λ i. refl) plain.3 can.0 can.1 in
+      ruled_set lawful allowed stands key s r id v w at walks walks refl refl place s.words r.history
+      (subst (Kept key.shape s.words (seats_of (set (offering_seats s.views) place.at (with_offer w.seat w.offer)))) (append-nil r.history) both.0)
+      (subst (KeptLists key.shape s.words (set (offering_seats s.views) place.at (with_offer w.seat w.offer))) (append-nil r.history) both.1)
       r.means (front_self r.history)
-      (record { front = k.front; met = k.met; walker = λ _. record { setting = g.setting; mine = g.mine; seen = g.seen; call = can.1; off_lists = begun_off lawful allowed stands key u begins Idle refl may } })
+      (record {
+        front = k.front;
+        met = k.met;
+        walker = λ _. record {
+          setting = g.setting;
+          mine = g.mine;
+          seen = g.seen;
+          call = can.2;
+          block = subst (λ o. IfSome o (λ n. stands key.meaning u.front n told)) (sym plain.0) tt;
+          crowded = g.crowded;
+        };
+      })
       (λ q ne. refl) where
         asked : (spare : ℕ) (marked : Bool) (x : Key) (front : List Entry) → lawful key.meaning front x → allowed key.meaning x
             → IfSome (key_in (first_phase spare marked x)) (λ y. lawful key.meaning front y × allowed key.meaning y)
@@ -270,63 +410,99 @@ module _ {M : Type 0} (lawful : M → List Entry → Key → Type 0) (allowed : 
         asked (suc n) false x front a b = (a, b)
 
         After : Phase → Type 0
-        After ph = HasReached key.shape s.words (known r.history) u.seat.spare u.seat.marked ph × IfSome (key_in ph) (λ x. lawful key.meaning u.front x × allowed key.meaning x)
+        After ph = HasReached key.shape s.words (known r.history) u.seat.spare u.seat.marked ph × HasListed key.shape s.words r.history u.seat.pass u.seat.refused told ph
+            × IfSome (key_in ph) (λ x. lawful key.meaning u.front x × allowed key.meaning x)
 
-        can_begin : MayBegin lawful allowed stands key u begins → HasReached key.shape s.words (known r.history) u.seat.spare u.seat.marked begins × IfSome (key_in begins) (λ x. lawful key.meaning u.front x × allowed key.meaning x)
-        can_begin (inl h) = subst After (sym h.1) (ask_reached key.shape s.words (known r.history) u.seat.spare u.seat.marked h.0, asked u.seat.spare u.seat.marked h.0 u.front h.2 h.3)
-        can_begin (inr (inl h)) =
-            let front = (r.views id (record u { seat = seat u.seat.pass u.seat.refused u.seat.spare u.seat.marked Idle }) at).front in
+        front : IsFront u.front r.history
+        front = (r.views id (record u { seat = seat u.seat.pass u.seat.refused u.seat.spare u.seat.marked Idle }) at).front
+
+        known_on : (n : ℕ) → 0 < uses n (known u.front) → 0 < uses n (known r.history)
+        known_on n h =
             let e : known r.history ≡ known_after (known u.front) front.0 = ap known front.1 ∙ known_after-append [] u.front front.0 in
-            let up = uses_after h.0 (known u.front) front.0 in
-            let same = ap (uses h.0) e in
-            subst After (sym h.1) (omega arith, tt)
-        can_begin (inr (inr h)) = subst After (sym h) (tt, tt)
-  begin_in s r id u other begins at walks may =
+            let up = uses_after n (known u.front) front.0 in
+            let same = ap (uses n) e in
+            omega arith
+
+        can_begin : MayBeginCall lawful allowed stands key u begins told → After begins
+        can_begin (inl h) = subst After (sym h.1) (
+          ask_reached key.shape s.words (known r.history) u.seat.spare u.seat.marked h.0,
+          first_listed key.shape s.words r.history u.seat.pass u.seat.refused told u.seat.spare u.seat.marked h.0,
+          asked u.seat.spare u.seat.marked h.0 u.front h.2 h.3,
+        )
+        can_begin (inr (inl h)) = subst After (sym h.1) (known_on h.0 h.2, tt, tt)
+        can_begin (inr (inr (inl h))) = subst After (sym h) (tt, tt, tt)
+        can_begin (inr (inr (inr (inl h)))) = subst After (sym h.1) (known_on h.0 h.2, tt, tt)
+        can_begin (inr (inr (inr (inr (inl h))))) =
+            let l = longer_is h.1 (listing_in u.front h.0) h.3 in
+            let there : listing_in r.history h.0 ≡ Some l.0 = ap (λ (x : List Entry). listing_in x h.0) front.1 ∙ listing_front u.front front.0 h.0 l.0 l.1 in
+            subst After (sym h.2) (listing_known key.shape r.history r.kept.legal h.0 l.0 there, subst (IsLongerThan h.1) (sym there) l.2, tt)
+        can_begin (inr (inr (inr (inr (inr h))))) = subst After (sym h.1) (known_on h.0 h.3, (ap (λ (l : List EntryWords). length l) h.2, omega arith), tt)
+  begin_in s r id u (ClaimingBlock number len) begins told at walks may tell =
+      let v = record u { seat = seat u.seat.pass u.seat.refused u.seat.spare u.seat.marked (ClaimingBlock number len) } in
+      let w = record u { seat = seat u.seat.pass u.seat.refused u.seat.spare u.seat.marked (ClaimingBlock number (length told)); offer = told } in
+      let place = place_of_pass s.views id v at walks in
+      let k = r.views id v at in
+      let g = k.walker walks in
+      let there = at_map (λ (x : SeatWithOffer). x.seat) (offering_seats s.views) place.at (with_offer v.seat v.offer) place.seat_there in
+      let reached = (r.kept.seat_is place.at v.seat there).reached in
+      let was = (r.lists.each place.at (with_offer v.seat v.offer) place.seat_there).listed in
+      let both = quiet_both key.shape s.words (offering_seats s.views) r.history r.kept r.lists place.at u.seat.pass u.seat.refused u.seat.spare u.seat.marked u.offer told
+      (ClaimingBlock number len) (ClaimingBlock number (length told)) place.seat_there refl refl (λ i. refl) (λ i. refl) reached ((refl, tell.0), was.1, was.2) in
+      ruled_set lawful allowed stands key s r id v w at walks walks refl refl place s.words r.history
+      (subst (Kept key.shape s.words (seats_of (set (offering_seats s.views) place.at (with_offer w.seat w.offer)))) (append-nil r.history) both.0)
+      (subst (KeptLists key.shape s.words (set (offering_seats s.views) place.at (with_offer w.seat w.offer))) (append-nil r.history) both.1)
+      r.means (front_self r.history)
+      (record { front = k.front; met = k.met; walker = λ _. record { setting = g.setting; mine = g.mine; seen = g.seen; call = tt; block = tt; crowded = g.crowded } })
+      (λ q ne. refl)
+  begin_in s r id u other begins told at walks may tell =
       subst (λ l. Ruled lawful allowed stands key record { words = s.words; homes = s.homes; views = l }) (sym (set_again s.views id (record u { seat = seat u.seat.pass u.seat.refused u.seat.spare u.seat.marked other }) at)) r
 
-  pub ruled_begun : (s : State S (View M)) (r : Ruled lawful allowed stands key s) (id : ℕ) (v : View M) (begins : Phase) → get_elem? s.views id ≡ some v → v.walks ≡ true
-      → (v.seat.phase ≡ Idle → MayBegin lawful allowed stands key v begins)
-      → Ruled lawful allowed stands key record { words = s.words; homes = s.homes; views = set s.views id (view_begun begins v) }
-  ruled_begun s r id v begins at walks may = begin_in s r id v v.seat.phase begins at walks may
+  pub ruled_begun : (s : State S (View M)) (r : Ruled lawful allowed stands key s) (id : ℕ) (v : View M) (begins : Phase) (told : List EntryWords) → get_elem? s.views id ≡ some v → v.walks ≡ true
+      → (v.seat.phase ≡ Idle → MayBeginCall lawful allowed stands key v begins told) → MayTell lawful allowed stands key v.front told v.seat.phase
+      → Ruled lawful allowed stands key record { words = s.words; homes = s.homes; views = set s.views id (view_begun begins told v) }
+  ruled_begun s r id v begins told at walks may tell = begin_in s r id v v.seat.phase begins told at walks may tell
 
-  pub allows_turn : (slots id : ℕ) (v : View M) (begins : Phase) (place : ℕ) (f : ℕ → ℕ) (then : ℕ → Me S (View M) → Type 0)
-      → v.walks ≡ true → v.setting ≡ Some key → (v.seat.phase ≡ Idle → MayBegin lawful allowed stands key v begins)
-      → place ≡ next_place key.shape (seat_begun begins v.seat) → Leaves key (view_begun begins v) place f
-      → ((n : ℕ) (w : View M) → Turned lawful allowed stands key (view_begun begins v) place n w → then n (w, []))
+  pub allows_turn : (slots id : ℕ) (v : View M) (begins : Phase) (told : List EntryWords) (place : ℕ) (f : ℕ → ℕ) (then : ℕ → Me S (View M) → Type 0)
+      → v.walks ≡ true → v.setting ≡ Some key → (v.seat.phase ≡ Idle → MayBeginCall lawful allowed stands key v begins told) → MayTell lawful allowed stands key v.front told v.seat.phase
+      → place ≡ next_place key.shape (seat_begun begins told v.seat) → Leaves key (view_begun begins told v) place f
+      → ((n : ℕ) (w : View M) → Turned lawful allowed stands key (view_begun begins told v) place n w → then n (w, []))
       → Allows (Ruled lawful allowed stands key) slots id (v, []) place f then
-  allows_turn slots id v begins place f then walks setting may is leaves tells s r long at fits =
-      let u = view_begun begins v in
+  allows_turn slots id v begins told place f then walks setting may tell is leaves tells s r long at fits =
+      let u = view_begun begins told v in
       let t : State S (View M) = record { words = s.words; homes = s.homes; views = set s.views id u } in
-      let q = ruled_begun s r id v begins at walks may in
+      let q = ruled_begun s r id v begins told at walks may tell in
       let there = at_again s.views id v u at in
+      let ready = begun_ready lawful allowed stands key v begins told v.seat.phase v.offer may tell ((r.views id v at).walker walks).block in
       let place' = place_of_pass t.views id u there walks in
       let n = slice_index s.words place in
-      let goes = turn_of key.shape [] u.seat n in
+      let goes = turn_of key.shape u.offer u.seat n in
       let w = moved u q.history goes in
-      let next = ruled_turn t q id u there walks in
+      let next = ruled_turn t q id u there walks ready in
       let end : Ruled lawful allowed stands key record { words = set s.words place (f n); homes = s.homes; views = set s.views id w } =
       subst₂ (λ ws vs. Ruled lawful allowed stands key record { words = ws; homes = s.homes; views = vs })
-      (ap (λ (p : ℕ). set s.words p (turn_of key.shape [] u.seat (slice_index s.words p)).word) (sym is)
-      ∙ ap (set s.words place) (sym (leaves s.words (seats_of t.views) q.history place'.at q.kept place'.seat_there)))
-      (set-set s.views id u _ ∙ ap (λ (p : ℕ). set s.views id (moved u q.history (turn_of key.shape [] u.seat (slice_index s.words p)))) (sym is))
-      next in (
+      (ap (λ (p : ℕ). set s.words p (turn_of key.shape u.offer u.seat (slice_index s.words p)).word) (sym is)
+      ∙ ap (set s.words place) (sym (leaves s.words (offering_seats t.views) q.history place'.at q.kept q.lists place'.seat_there)))
+      (set-set s.views id u _ ∙ ap (λ (p : ℕ). set s.views id (moved u q.history (turn_of key.shape u.offer u.seat (slice_index s.words p)))) (sym is))
+      next in
+      let last = (end.views id w (at_again s.views id v w at)).walker walks in (
         w,
         keeps,
         tt,
         end,
         tells n w (record {
           words = s.words;
-          seats = seats_of t.views;
+          seats = offering_seats t.views;
           index = place'.at;
           history = q.history;
           kept = q.kept;
+          lists = q.lists;
           here = place'.seat_there;
-          off_lists = ((q.views id u there).walker walks).off_lists;
           read = refl;
           front = (q.views id u there).front;
           met = (q.views id u there).met;
           after = refl;
-          seen = ((end.views id w (at_again s.views id v w at)).walker walks).seen;
-          means = subst (λ p. MeansAfter lawful allowed stands key.meaning [] (q.history ++ (turn_of key.shape [] u.seat (slice_index s.words p)).made)) (sym is) (turn_means t q id u there walks);
+          seen = last.seen;
+          means = subst (λ p. MeansAfter lawful allowed stands key.meaning [] (q.history ++ (turn_of key.shape u.offer u.seat (slice_index s.words p)).made)) (sym is) (turn_means t q id u there walks ready);
+          crowded = last.crowded;
         }),
       )

@@ -9,12 +9,12 @@ use Rattle.intern_core.specs.declared.seat.Seat.{Seat}
 use Rattle.intern_core.specs.declared.seat.Phase.TheVariants.{Idle}
 use Rattle.intern_core.specs.Layout.{word_count}
 use Rattle.intern_core.specs.History.{known, uses, IsLegal}
-use Rattle.intern_core.specs.Turns.{seat, next_place, is_on_lists}
+use Rattle.intern_core.specs.Turns.{seat, next_place}
 use Rattle.intern_core.specs.Kept.{IsShape}
 use Rattle.chain_rule.specs.Pacing.{IsPaced}
 use Rattle.chain_rule.specs.declared.meaning.Setting.{Setting}
 use Rattle.chain_rule.specs.declared.view.View.{View}
-use Rattle.chain_rule.specs.Rule.{own, MeansAfter}
+use Rattle.chain_rule.specs.Rule.{own, MeansAfter, no_room, IsCrowded}
 
 module _ {M : Type 0} (lawful : M → List Entry → Key → Type 0) (allowed : M → Key → Type 0) (stands : M → List Entry → ℕ → List EntryWords → Type 0) where
   -- what a pass keeps between its steps, so that its next step finds a word of the table
@@ -28,15 +28,19 @@ module _ {M : Type 0} (lawful : M → List Entry → Key → Type 0) (allowed : 
     pub means : MeansAfter lawful allowed stands key.meaning [] me.0.front
     pub numbers : (n : ℕ) → 0 < uses n (known me.0.front) → n ≤ key.shape.nodes
     pub spare : s.spare ≤ key.shape.nodes
-    pub off_lists : is_on_lists s.phase ≡ false
+    pub mark : s.marked ≡ true → s.spare ≡ 0
+    pub crowded : no_room s ≡ true → IsCrowded key.shape me.0.front
     pub paced : IsPaced key.shape.nodes s
     pub within : next_place key.shape s < word_count key.shape
 
-  -- what every pass has seen: its front is legal, also for the meaning, and the entries of its number there are its own calls
+  -- What every pass has seen: its front is legal, also for the meaning, and the entries of its number there are its own; the front is
+  -- crowded once the pass was answered that there is no room. Once the pass is marked full it has no spare.
   pub record Stays (key : Setting M) (v : View M) : Type 0 where
     pub legal : IsLegal key.shape v.front
     pub means : MeansAfter lawful allowed stands key.meaning [] v.front
     pub seen : own v.seat.pass v.front ≡ v.mine
+    pub crowded : no_room v.seat ≡ true → IsCrowded key.shape v.front
+    pub mark : v.seat.marked ≡ true → v.seat.spare ≡ 0
 
 -- a table as contracts see it
 pub record Board (M : Type 0) : Type 0 where

@@ -1,5 +1,5 @@
 -- What holds between any two steps of the words and of all views: there is one history.
-use Rattle.std.specs.Prelude.{◌≡◌, ℕ, ◌<◌, ◌≤◌, ◌==◌, true, false, List, [], ◌∷◌, ◌++◌, length, if◌then◌else◌, Some, None, IfSome}
+use Rattle.std.specs.Prelude.{◌≡◌, ℕ, ◌+◌, ◌*◌, ◌<◌, ◌≤◌, ◌==◌, Bool, true, false, List, [], ◌∷◌, ◌++◌, length, if◌then◌else◌, Option, Some, None, IfSome, is_some}
 use mathlib.Core.Option.{some}
 use lib.ListN.{get_elem?}
 use Rattle.atomic_table.specs.Table.{State}
@@ -9,11 +9,16 @@ use Rattle.intern_core.specs.declared.history.Reply.TheVariants.{Num}
 use Rattle.intern_core.specs.declared.history.Entry.{Entry}
 use Rattle.intern_core.specs.declared.history.Entry.TheVariants.{Call, Lost}
 use Rattle.intern_core.specs.declared.history.Entry.TheVariants as entry
+use Rattle.intern_core.specs.declared.shape.Shape.{Shape}
 use Rattle.intern_core.specs.declared.seat.Seat.{Seat}
-use Rattle.intern_core.specs.declared.seat.Phase.TheVariants.{Idle}
+use Rattle.intern_core.specs.declared.seat.SeatWithOffer.{SeatWithOffer}
+use Rattle.intern_core.specs.declared.seat.Phase.{Phase}
+use Rattle.intern_core.specs.declared.seat.Phase.TheVariants.{Idle, StoringWord, SwappingList}
 use Rattle.intern_core.specs.History.{known, number_in}
-use Rattle.intern_core.specs.Turns.{seat, is_on_lists}
+use Rattle.intern_core.specs.Turns.{seat}
 use Rattle.intern_core.specs.Kept.{Kept}
+use Rattle.intern_core.specs.Blocks.{taken_by, KeptLists}
+use Rattle.intern_core.specs.Machine.{with_offer, seats_of}
 use Rattle.intern_core.specs.Pace.{key_in}
 use Rattle.chain_rule.specs.declared.meaning.Setting.{Setting}
 use Rattle.chain_rule.specs.declared.view.View.{View}
@@ -33,11 +38,26 @@ abbrev pub own : ℕ → List Entry → List Entry
 own p [] = []
 own p (e ∷ es) = if pass_of e == p then e ∷ own p es else own p es
 
+-- the number for which a call in flight has claimed a block
+abbrev pub block_in : Phase → Option ℕ
+block_in (StoringWord number start len stored) = Some number
+block_in (SwappingList number start len) = Some number
+block_in other = None
+
+-- a seat was answered that there is no room
+abbrev pub no_room : Seat → Bool
+no_room s = is_some s.refused
+
+-- A front is crowded where the lengths of its lists, published and lost, and 4,096 for each pass are together above the entries. So
+-- without the lists of other passes that it hasn't seen, a list of 4,096 entries may find no room.
+abbrev pub IsCrowded : Shape → List Entry → Type 0
+IsCrowded shape front = shape.entries < taken_by front + shape.passes * 4096
+
 module _ {M : Type 0} where
-  -- the seats of the passes; the views of notes are left out
-  abbrev pub seats_of : List (View M) → List Seat
-  seats_of [] = []
-  seats_of (v ∷ vs) = if v.walks then v.seat ∷ seats_of vs else seats_of vs
+  -- the seats of the passes, with what they offer; the views of notes are left out
+  abbrev pub offering_seats : List (View M) → List SeatWithOffer
+  offering_seats [] = []
+  offering_seats (v ∷ vs) = if v.walks then with_offer v.seat v.offer ∷ offering_seats vs else offering_seats vs
 
   -- the view of a pass that has seen nothing; `made` counts the passes that it has made, itself among them
   abbrev pub fresh_view : Setting M → ℕ → ℕ → View M
@@ -48,6 +68,7 @@ module _ {M : Type 0} where
     met = [];
     mine = [];
     seat = seat number None 0 false Idle;
+    offer = [];
     made = made;
   }
 
@@ -69,13 +90,15 @@ module _ {M : Type 0} where
     MeansAfter m before (e ∷ es) = Means m before e × MeansAfter m (before ++ e ∷ []) es
 
     -- what a pass knows of the one history: the shape and the meaning, its own entries, which are all in its front, and that the key
-    -- of its call is lawful there and allowed; its call is not on lists
+    -- of its call is lawful there and allowed; the words for which it has claimed a block stand for their number; and its front is crowded
+    -- once it was answered that there is no room
     pub record Walks (key : Setting M) (history : List Entry) (v : View M) : Type 0 where
       pub setting : v.setting ≡ Some key
       pub mine : own v.seat.pass history ≡ v.mine
       pub seen : own v.seat.pass v.front ≡ v.mine
       pub call : IfSome (key_in v.seat.phase) (λ k. lawful key.meaning v.front k × allowed key.meaning k)
-      pub off_lists : is_on_lists v.seat.phase ≡ false
+      pub block : IfSome (block_in v.seat.phase) (λ n. stands key.meaning v.front n v.offer)
+      pub crowded : no_room v.seat ≡ true → IsCrowded key.shape v.front
 
     -- the history begins with what a view has seen, and with what a note that was taken in had seen
     pub record Knows (key : Setting M) (history : List Entry) (v : View M) : Type 0 where
@@ -85,15 +108,16 @@ module _ {M : Type 0} where
 
     -- what pass 0 knows of the passes made so far: their numbers are those below their count, and no other has made an entry
     pub record Counts (history : List Entry) (views : List (View M)) (v : View M) : Type 0 where
-      pub many : length (seats_of views) ≡ v.made
+      pub many : length (offering_seats views) ≡ v.made
       pub below : (j : ℕ) (w : View M) → get_elem? views j ≡ some w → w.walks ≡ true → w.seat.pass < v.made
       pub silent : (p : ℕ) → v.made ≤ p → own p history ≡ []
 
-    -- There is one history, which is legal and means what it should; the words and the seats are as it has left them; and every
-    -- front is a prefix of it.
+    -- There is one history, which is legal and means what it should; the words, the blocks and the seats are as it has left them; and
+    -- every front is a prefix of it.
     pub record Ruled {S : Type 0} (key : Setting M) (s : State S (View M)) : Type 0 where
       pub history : List Entry
-      pub kept : Kept key.shape s.words (seats_of s.views) history
+      pub kept : Kept key.shape s.words (seats_of (offering_seats s.views)) history
+      pub lists : KeptLists key.shape s.words (offering_seats s.views) history
       pub means : MeansAfter key.meaning [] history
       pub views : (i : ℕ) (v : View M) → get_elem? s.views i ≡ some v → Knows key history v
       pub apart : (i j : ℕ) (v w : View M) → get_elem? s.views i ≡ some v → get_elem? s.views j ≡ some w → v.walks ≡ true → w.walks ≡ true → v.seat.pass ≡ w.seat.pass → i ≡ j

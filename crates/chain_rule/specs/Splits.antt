@@ -8,7 +8,7 @@ use Rattle.chain_rule.specs.declared.view.View.{View}
 module _ {M : Type 0} where
   -- a note of what was seen
   abbrev pub noted : List Entry → View M
-  noted front = record { walks = false; setting = None; front = front; met = []; mine = []; seat = seat 0 None 0 false Idle; made = 0 }
+  noted front = record { walks = false; setting = None; front = front; met = []; mine = []; seat = seat 0 None 0 false Idle; offer = []; made = 0 }
 
   -- pass 0 once it has made one more
   abbrev pub giver : View M → View M
@@ -16,7 +16,7 @@ module _ {M : Type 0} where
 
   -- the pass that it made
   abbrev pub newcomer : View M → View M
-  newcomer v = record { walks = true; setting = v.setting; front = []; met = []; mine = []; seat = seat v.made None 0 false Idle; made = 0 }
+  newcomer v = record { walks = true; setting = v.setting; front = []; met = []; mine = []; seat = seat v.made None 0 false Idle; offer = []; made = 0 }
 
   -- a pass that takes in a note
   abbrev pub meets : View M → View M → View M

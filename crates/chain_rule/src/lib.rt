@@ -1,7 +1,9 @@
 //! The interner's words as atomic words under one rule: every pass has seen a prefix of one history.
 #![tactic(auto)]
 
+mod begins;
 mod desk;
+mod listing;
 mod meaning;
 mod notes;
 mod noting;
@@ -14,12 +16,16 @@ mod steps;
 mod table;
 mod view;
 
+pub use begins::Begins;
 pub use desk::{Desk, Place};
+pub use listing::{
+    step_claim_block, step_load_list, step_load_word, step_store_word, step_swap_list,
+};
 pub use meaning::{Meaning, Setting};
 pub use notes::Note;
 pub use noting::{meet, note};
 pub use pass::Pass;
-pub use plays::Begins;
+pub use plays::Beginning;
 pub use rule::Chain;
 pub use stepping::{
     step_claim, step_load_link, step_load_one, step_load_two, step_store_one, step_store_two,

@@ -60,6 +60,6 @@ pub fn meet<M: Meaning>(table: &Table<M>, pass: &mut Pass<M>, note: Note<M>)
     ensures stays { Stays M.lawful M.allowed M.stands table.now.setting pass.new.view }
 {
     take_in(&table.desk, pass, note);
-    advance::<M, Brand>(&table.desk, pass, &Phase::Idle);
+    advance::<M, Brand>(&table.desk, pass, &Phase::Idle, 0, 0);
     pass.valid();
 }

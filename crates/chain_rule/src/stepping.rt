@@ -46,7 +46,7 @@ pub fn step_claim<M: Meaning, L: Ledger>(
 {
     steps.tick();
     let begins = first_phase(&pass.seat(), key);
-    advance::<M, Brand>(&table.desk, pass, &begins);
+    advance::<M, Brand>(&table.desk, pass, &begins, 0, 0);
     pass.valid();
 }
 
@@ -71,7 +71,7 @@ pub fn step_store_one<M: Meaning, L: Ledger>(
 {
     steps.tick();
     let begins = first_phase(&pass.seat(), key);
-    advance::<M, Brand>(&table.desk, pass, &begins);
+    advance::<M, Brand>(&table.desk, pass, &begins, 0, 0);
     pass.valid();
 }
 
@@ -94,7 +94,7 @@ pub fn step_store_two<M: Meaning, L: Ledger>(
     steps.tick();
     let _ = key;
     let begins = Phase::Idle;
-    advance::<M, Brand>(&table.desk, pass, &begins);
+    advance::<M, Brand>(&table.desk, pass, &begins, 0, 0);
     pass.valid();
 }
 
@@ -123,7 +123,7 @@ pub fn step_load_link<M: Meaning, L: Ledger>(
 {
     steps.tick();
     let begins = first_phase(&pass.seat(), key);
-    let found = advance::<M, Brand>(&table.desk, pass, &begins);
+    let found = advance::<M, Brand>(&table.desk, pass, &begins, 0, 0);
     pass.valid();
     number_of(found)
 }
@@ -149,7 +149,7 @@ pub fn step_load_one<M: Meaning, L: Ledger>(
 {
     steps.tick();
     let begins = Phase::LookingOne(number);
-    let found = advance::<M, Brand>(&table.desk, pass, &begins);
+    let found = advance::<M, Brand>(&table.desk, pass, &begins, 0, 0);
     pass.valid();
     found
 }
@@ -174,7 +174,7 @@ pub fn step_load_two<M: Meaning, L: Ledger>(
     steps.tick();
     let _ = number;
     let begins = Phase::Idle;
-    let found = advance::<M, Brand>(&table.desk, pass, &begins);
+    let found = advance::<M, Brand>(&table.desk, pass, &begins, 0, 0);
     pass.valid();
     found
 }
@@ -203,7 +203,7 @@ pub fn step_swap_link<M: Meaning, L: Ledger>(
     steps.tick();
     let _ = key;
     let begins = Phase::Idle;
-    let found = advance::<M, Brand>(&table.desk, pass, &begins);
+    let found = advance::<M, Brand>(&table.desk, pass, &begins, 0, 0);
     pass.valid();
     number_of(found)
 }

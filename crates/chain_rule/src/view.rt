@@ -1,7 +1,7 @@
 //! What a seat at the table knows.
 
 use crate::meaning::Setting;
-use intern_core::{Entry, Seat};
+use intern_core::{Entry, EntryWords, Seat};
 use std::collections::LinkedList;
 
 /// What a pass or a note knows. No value of it is made. A note has a front alone.
@@ -17,6 +17,8 @@ pub struct View<M> {
     pub mine: LinkedList<Entry>,
     /// Its number, its spare, its mark and its call.
     pub seat: Seat,
+    /// The entries that it offers or offered last.
+    pub offer: LinkedList<EntryWords>,
     /// In the view of pass 0: how many passes were made.
     pub made: u32,
 }

@@ -1,6 +1,8 @@
 //! The line of each fault.
 
-use sim_command::{Fault, FaultName, Line, Place, Stop, fault_line};
+use pepa_lexer::Place;
+use sim_report::{Fault, FaultName, Line, fault_line};
+use sim_space::Stop;
 
 fn fault_at(line: u32, column: u32) -> Fault {
     Fault::Model {

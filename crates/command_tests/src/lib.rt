@@ -1,12 +1,8 @@
-//! Tests of devices, of apparent rates, and of a whole call: its words, its answers and its lines.
+//! Tests of a whole call: its words, its answers and its lines.
 //!
 //! They call public functions alone, and have a crate of their own since a crate with tests is proved twice.
 #![tactic(auto)]
 
-#[cfg(test)]
-mod apparent_rates;
-#[cfg(test)]
-mod devices;
 #[cfg(test)]
 mod fault_lines;
 #[cfg(test)]

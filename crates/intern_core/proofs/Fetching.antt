@@ -3,6 +3,7 @@ use Rattle.std.proofs.Common.{◌≡◌, ◌↔◌, ℕ, zero, suc, ◌+◌, ◌
 use Rattle.std.proofs.lemmas.Bool.{cond_both, leb-true, leb-false, true≢false}
 use Rattle.intern_core.specs.declared.shape.Shape.{Shape}
 use Rattle.intern_core.specs.declared.history.EntryWords.{EntryWords}
+use Rattle.intern_core.specs.declared.history.Entry.{Entry}
 use Rattle.intern_core.specs.declared.outcome.Outcome2.TheVariants.{Length, Got, Offered}
 use Rattle.intern_core.specs.declared.outcome.Published.TheVariants.{NoRoom}
 use Rattle.intern_core.specs.declared.seat.Phase.{Phase}
@@ -69,19 +70,35 @@ held_at words at (x ∷ xs) (suc k) low h =
     let same : at + suc k ≡ at + 1 + k = omega arith in ap (slice_index words) same ∙ held_at words (at + 1) xs k (omega arith) h.1
 
 -- the word j of the entry at this place of a published list
-word_of_list : (shape : Shape) (words : List ℕ) (word at index j : ℕ) (l : Listing) → shape.entries ≤ 16777216 → IsListWord shape words word (Some l) → at < length l.words
-    → index ≡ start_in word + at → j < 3 → slice_index words (block_at shape index + j) ≡ slice_index (get_or l.words at (record { 0 = [] })).0 j
-word_of_list shape words word at index j l few h low is small =
+word_of_block : (shape : Shape) (words : List ℕ) (word at index j : ℕ) (l : Listing) → shape.entries ≤ 16777216 → IsListWord shape words word (Some l) → at < length l.words
+    → index ≡ start_in word + at → j < 3 → slice_index words (block_at shape index + j) ≡ slice_index (flat l.words) (3 * at + j)
+word_of_block shape words word at index j l few h low is small =
     let fits = h.2 in
     let start_is : start_in word ≡ h.0 = ap start_in h.1 ∙ start_of_word h.0 (length l.words) (omega arith) in
     let place : block_at shape index + j ≡ block_at shape h.0 + (3 * at + j) = omega arith in
-    let quotient : (3 * at + j) / 3 ≡ at = omega arith in
-    let rest : (3 * at + j) % 3 ≡ j = omega arith in
     ap (slice_index words) place
     ∙ held_at words (block_at shape h.0) (flat l.words) (3 * at + j) (omega (arith, length_flat l.words)) h.3
+
+word_of_list : (shape : Shape) (words : List ℕ) (word at index j : ℕ) (l : Listing) → shape.entries ≤ 16777216 → IsListWord shape words word (Some l) → at < length l.words
+    → index ≡ start_in word + at → j < 3 → slice_index words (block_at shape index + j) ≡ slice_index (get_or l.words at (record { 0 = [] })).0 j
+word_of_list shape words word at index j l few h low is small =
+    let quotient : (3 * at + j) / 3 ≡ at = omega arith in
+    let rest : (3 * at + j) % 3 ≡ j = omega arith in
+    word_of_block shape words word at index j l few h low is small
     ∙ sym (flat_word l.words (3 * at + j) (omega arith))
     ∙ ap (λ n. slice_index (get_or l.words n (record { 0 = [] })).0 ((3 * at + j) % 3)) quotient
     ∙ ap (λ n. slice_index (get_or l.words at (record { 0 = [] })).0 n) rest
+
+-- a word of an entry that a call reads is that of the list
+pub entry_word : (shape : Shape) (words : List ℕ) (history : List Entry) → shape.entries ≤ 16777216
+    → ((n : ℕ) → 0 < n → n ≤ shape.nodes → IsListWord shape words (slice_index words (list_at n)) (listing_in history n))
+    → (number at index j : ℕ) → IsEntryOf shape words history number at index → j < 3
+    → (l : Listing) × (listing_in history number ≡ Some l) × (at < length l.words) × (slice_index words (block_at shape index + j) ≡ slice_index (flat l.words) (3 * at + j))
+entry_word shape words history few lists number at index j h small = by (listing_in history number) refl h.2 (lists number h.0 h.1) where
+  by : (o : Option Listing) → listing_in history number ≡ o → IsLongerThan at o → IsListWord shape words (slice_index words (list_at number)) o
+      → (l : Listing) × (listing_in history number ≡ Some l) × (at < length l.words) × (slice_index words (block_at shape index + j) ≡ slice_index (flat l.words) (3 * at + j))
+  by None e long w = absurd long
+  by (Some l) e long w = (l, e, long, word_of_block shape words (slice_index words (list_at number)) at index j l few w long h.3 small)
 
 -- an entry that is got is the published one
 pub got_is : (m : Machine) → IsKept m → (i : ℕ) (s : SeatWithOffer) → slice_get m.seats i ≡ Some s → (number at index one two : ℕ)
@@ -119,6 +136,18 @@ got_is m k i s there number at index one two phase_is w out =
                 ∙ ap (λ n. slice_index x.0 0 ∷ slice_index x.0 1 ∷ n ∷ []) c),
           )
 
+-- a list word has the length of the published list
+pub length_of_word : (shape : Shape) (words : List ℕ) (word : ℕ) (o : Option Listing) → shape.entries ≤ 16777216 → IsListWord shape words word o
+    → length_in word ≡ option_map (λ (l : Listing). length l.words) o
+length_of_word shape words zero None few h = refl
+length_of_word shape words (suc n) None few h = absurd (let z : suc n ≡ 0 = h in omega arith)
+length_of_word shape words zero (Some l) few h = absurd (let is = h.1 in omega arith)
+length_of_word shape words (suc n) (Some l) few h =
+    let is = h.1 in
+    let fits = h.2 in
+    let same : suc n % 2 ^ 32 ≡ length l.words = omega arith in
+    ap Some same
+
 -- a length that is fetched is that of the published list
 pub length_is : (m : Machine) → IsKept m → (i : ℕ) (s : SeatWithOffer) → slice_get m.seats i ≡ Some s → (number : ℕ) → s.seat.phase ≡ MeasuringList number
     → (next_turn m s).outcome ≡ Length (option_map (λ (l : Listing). length l.words) (listing_in m.history number))
@@ -129,14 +158,4 @@ length_is m k i s there number phase_is =
     let small = known_small m.shape m.words (seats_of m.seats) m.history k.kept number known_there in
     subst (λ ph. (turn_in m.shape s.offer q.pass q.refused q.spare q.marked ph (slice_index m.words (next_place_in m.shape q.spare ph))).outcome
     ≡ Length (option_map (λ (l : Listing). length l.words) (listing_in m.history number))) (sym phase_is)
-    (ap Length (by (slice_index m.words (list_at number)) (listing_in m.history number) (k.kept.image.lists number small.0 small.1))) where
-      by : (word : ℕ) (o : Option Listing) → IsListWord m.shape m.words word o → length_in word ≡ option_map (λ (l : Listing). length l.words) o
-      by zero None h = refl
-      by (suc n) None h = absurd (let z : suc n ≡ 0 = h in omega arith)
-      by zero (Some l) h = absurd (let is = h.1 in omega arith)
-      by (suc n) (Some l) h =
-          let is = h.1 in
-          let fits = h.2 in
-          let few = k.kept.ranges.entries_fit in
-          let same : suc n % 2 ^ 32 ≡ length l.words = omega arith in
-          ap Some same
+    (ap Length (length_of_word m.shape m.words (slice_index m.words (list_at number)) (listing_in m.history number) k.kept.ranges.entries_fit (k.kept.image.lists number small.0 small.1)))

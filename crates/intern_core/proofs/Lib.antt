@@ -18,5 +18,6 @@ pub mod Happening
 pub mod Asking
 pub mod Bound
 pub mod Opening
+pub mod Rooms
 pub mod Pacing
 pub mod Fetching

@@ -157,7 +157,7 @@ none_published : (words : List ℕ) (index count : ℕ) → published_with words
 none_published words index zero = refl
 none_published words index (suc count) = omega (arith, none_published words index count)
 
-idle_lists : (shape : Shape) (n : ℕ) → KeptLists shape (replicate (word_count shape) 0) (idle_seats n) []
+pub idle_lists : (shape : Shape) (n : ℕ) → KeptLists shape (replicate (word_count shape) 0) (idle_seats n) []
 idle_lists shape n =
     let words : List ℕ = replicate (word_count shape) 0 in
     let holding : total held (idle_seats n) ≡ 0 = total_none held (idle_seats n) (λ i s at. ap claimed_in (all_idle n i s at).0) in

@@ -20,4 +20,4 @@ pub use places::{bucket, place, word_count};
 pub use seat::{Phase, Seat, SeatWithOffer};
 pub use shape::Shape;
 pub use stepping::{core_step, run_core};
-pub use turns::{first_phase, left, outcome_of, turned};
+pub use turns::{first_phase, left, list_length, offered_word, outcome_of, turned};

@@ -276,8 +276,8 @@ pub fn left(seat: &Seat, offer: &[EntryWords], found: u64) -> u64
     }
 }
 
-// A word of the offered entries.
-fn offered_word(offer: &[EntryWords], stored: u32) -> u64
+/// A word of the offered entries, three for each.
+pub fn offered_word(offer: &[EntryWords], stored: u32) -> u64
     requires { stored < 3 * length offer.now }
     ensures { result ≡ slice_index (flat offer.now) stored }
 {
@@ -390,8 +390,8 @@ fn answered_if(answered: bool, reply: Reply) -> Outcome2
     }
 }
 
-// How long the list is that a list word names.
-fn list_length(word: u64) -> Option<u32>
+/// How long the list is that a list word names.
+pub fn list_length(word: u64) -> Option<u32>
     ensures { result ≡ turns.length_in word }
 {
     if word == 0 {

@@ -1,4 +1,4 @@
-//! Tests of rates, of names and terms, and of the printed texts of models.
+//! Tests of rates, of names and terms, of the texts of their parts, and of the printed texts of models.
 //!
 //! They call public functions alone, and have a crate of their own since a crate with tests is proved twice.
 #![tactic(auto)]
@@ -9,3 +9,7 @@ mod models;
 mod printed_texts;
 #[cfg(test)]
 mod rates;
+#[cfg(test)]
+mod reading;
+#[cfg(test)]
+mod texts;

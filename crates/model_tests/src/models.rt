@@ -25,7 +25,8 @@ fn a_term_has_its_leaf(rt: HostRuntime) -> Result<(), Fail> {
 
 // 3 and 5 cooperate over set 1, set 2 is hidden in that, and this cooperates over set 0 with 3.
 fn cooperating(alloc: Global) -> Result<Term, AllocError>
-    ensures { IfOk result (λ term. term_of term ≡ CoopNode (HideNode (CoopNode (LeafNode 3) (LeafNode 5) 1) 2) (LeafNode 3) 0) }
+    ensures { IfOk result (λ term. term_of term
+        ≡ CoopNode (HideNode (CoopNode (LeafNode 3) (LeafNode 5) 1) 2) (LeafNode 3) 0) }
 {
     let left = Box::new(alloc, Term::Leaf(3))?;
     let right = Box::new(alloc, Term::Leaf(5))?;

@@ -1,9 +1,7 @@
 //! Models and their texts in normal form.
 
-use pepa_checks::check;
-use pepa_lexer::tokens;
+use crate::reading::model_of;
 use pepa_printer::print_model;
-use pepa_reader::read_file;
 use sim_outside::Bytes;
 use std::alloc::Global;
 use std::process::Abort;
@@ -71,10 +69,7 @@ const TEXTS: &[(&str, &str)] = &[
 ];
 
 fn printed(rt: &impl Abort, alloc: Global, text: &[u8]) -> Result<Bytes, Fail> {
-    assert!(rt; text.len() <= 1 << 20);
-    let list = tokens(alloc, text)?;
-    let tree = read_file(alloc, list.as_slice(), text)?;
-    let model = check(alloc, &tree, list.as_slice(), text)?;
+    let model = model_of(rt, alloc, text)?;
     Ok(print_model(alloc, &model)?)
 }
 

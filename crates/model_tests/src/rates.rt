@@ -168,14 +168,14 @@ fn are_alike(a: &Rate, b: &Rate) -> bool
     )
 }
 
-fn active(rt: &impl Abort, n: u128, d: u128) -> Rate
+pub(crate) fn active(rt: &impl Abort, n: u128, d: u128) -> Rate
     requires numerator { 0 < n }
     requires denominator { 0 < d }
 {
     Rate::Active(fraction(rt, n, d))
 }
 
-fn passive(rt: &impl Abort, n: u128, d: u128) -> Rate
+pub(crate) fn passive(rt: &impl Abort, n: u128, d: u128) -> Rate
     requires numerator { 0 < n }
     requires denominator { 0 < d }
 {

@@ -7,20 +7,20 @@ use Rattle.std.proofs.lemmas.List.Elements.{Contains-append_left, Contains-appen
 use Rattle.pepa_rates.specs.declared.rate.Rate.{Rate}
 use Rattle.pepa_lexer.specs.declared.kinds.Token.{Token}
 use Rattle.pepa_reader.specs.declared.trees.FileTree.{FileTree}
-use Rattle.pepa_reader.specs.Terminals.{terminals}
+use Rattle.token_grammar.specs.Terminals.{terminals, name_at}
 use Rattle.pepa_reader.specs.Trees.{ProcessNode, ProcessLineNode, FileNode, file_node_of}
 use Rattle.pepa_reader.specs.FileAnswers.{IsFileTree}
-use Rattle.pepa_resolver.specs.Parts.{name_at, process_ats, processes_of}
+use Rattle.pepa_resolver.specs.Parts.{process_ats, processes_of}
 use Rattle.pepa_resolver.specs.Faults.{HasNone, TooManyAt}
 use Rattle.pepa_resolver.specs.Named.{Named, Naming, named, constants_named}
 use Rattle.pepa_resolver.specs.NamedTypes.{HasConstantsBelow}
 use Rattle.pepa_resolver.specs.Numbers.{naming_of, named_bodies, named_system}
-use Rattle.pepa_resolver.specs.Graphs.{AreBelow, IsTableOf}
-use Rattle.pepa_resolver.specs.Structure.{IsCompound, NotSequentialAt}
-use Rattle.pepa_resolver.specs.StructureAnswers.{IsStructured}
-use Rattle.pepa_resolver.specs.StructuredFiles.{IsNumbered}
-use Rattle.pepa_resolver.proofs.Findings.{one_element, contains_one, contains_map_from, contains_map_to}
-use Rattle.pepa_resolver.proofs.NumberedFile.{in_range}
+use Rattle.node_orders.specs.Graphs.{AreBelow, IsTableOf}
+use Rattle.pepa_checks.specs.Structure.{IsCompoundConstant, NotSequentialAt}
+use Rattle.pepa_checks.specs.StructureAnswers.{IsStructured}
+use Rattle.pepa_resolver.specs.ResolvedFiles.{IsNumberedFile}
+use Rattle.node_orders.proofs.Elements.{one_element, contains_one, contains_map_from, contains_map_to}
+use Rattle.pepa_resolver.proofs.NumberedParts.{in_range}
 use Rattle.pepa_checks.specs.Heights.{height_in, most_height, AreLow}
 use Rattle.pepa_checks.specs.Built.{IsBuilt}
 use Rattle.pepa_checks.specs.CheckedFiles.{Sound}
@@ -44,7 +44,7 @@ named_from naming file process among =
       | inr h ↦ (file.system, Contains-append_right (map (λ (l : ProcessLineNode). l.body) file.processes) (file.system ∷ []) file.system (contains_one file.system), one_element (named_system naming file) process h)
     ]
 
-module _ (input : List ℕ) (tokens : List Token) (tree : FileTree) (values : List Rate) (bodies : List Named) (system : Named) (numbered : IsNumbered input tokens (file_node_of tree) values bodies system) where
+module _ (input : List ℕ) (tokens : List Token) (tree : FileTree) (values : List Rate) (bodies : List Named) (system : Named) (numbered : IsNumberedFile input tokens (file_node_of tree) values bodies system) where
   abbrev naming : Naming
   naming = naming_of (name_at input tokens) tokens (file_node_of tree) values
 
@@ -62,7 +62,7 @@ module _ (input : List ℕ) (tokens : List Token) (tree : FileTree) (values : Li
       (subst (λ (p : Named). AreBelow (length (file_node_of tree).processes) (constants_named p)) from.2 range.constants_below)
 
   -- they have no fault of their structure, whatever table says which constants are compound
-  pub is_built : (compounds : List Bool) → IsFileTree (terminals input tokens) tree → IsStructured bodies system → length compounds ≡ length bodies → IsTableOf (IsCompound bodies) compounds → IsBuilt compounds bodies system
+  pub is_built : (compounds : List Bool) → IsFileTree (terminals input tokens) tree → IsStructured bodies system → length compounds ≡ length bodies → IsTableOf (IsCompoundConstant bodies) compounds → IsBuilt compounds bodies system
   is_built compounds is structured one_each table = record {
     one_each = one_each;
     table = table;
@@ -77,7 +77,7 @@ sound_built input tokens tree sound is =
     is_built input tokens tree sound.values sound.bodies sound.system sound.numbered sound.compounds is sound.structured sound.one_each sound.table
 
 -- the same, from what holds of the bodies and of the system
-pub built_from : (compounds : List Bool) (bodies : List Named) (system : Named) → length compounds ≡ length bodies → IsTableOf (IsCompound bodies) compounds → HasNone (NotSequentialAt bodies system) → HasConstantsBelow (length bodies) bodies → AreBelow (length bodies) (constants_named system) → length bodies ≤ 1024 → AreLow bodies → height_in system ≤ most_height → IsBuilt compounds bodies system
+pub built_from : (compounds : List Bool) (bodies : List Named) (system : Named) → length compounds ≡ length bodies → IsTableOf (IsCompoundConstant bodies) compounds → HasNone (NotSequentialAt bodies system) → HasConstantsBelow (length bodies) bodies → AreBelow (length bodies) (constants_named system) → length bodies ≤ 1024 → AreLow bodies → height_in system ≤ most_height → IsBuilt compounds bodies system
 built_from compounds bodies system one_each table sequential known_bodies known_system few low_bodies low_system = record {
   one_each = one_each;
   table = table;

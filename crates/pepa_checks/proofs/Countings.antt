@@ -5,12 +5,14 @@ use Rattle.std.specs.Map.{keys_of}
 use Rattle.std.proofs.lemmas.List.{length-map}
 use Rattle.indexmap.specs.IndexMap.{keys}
 use Rattle.pepa_resolver.specs.Named.{Named}
-use Rattle.pepa_resolver.specs.Structure.{CompoundEdge, UnguardedEdge}
-use Rattle.pepa_resolver.specs.Graphs.{IsOrder}
+use Rattle.pepa_checks.specs.Structure.{CompoundEdge, UnguardedEdge}
+use Rattle.node_orders.specs.Graphs.{IsOrder}
 use Rattle.pepa_checks.specs.declared.leaves.Leaves.{Leaves}
 use Rattle.pepa_checks.specs.declared.counting.Counted.{Counted}
-use Rattle.pepa_checks.specs.declared.limit_end.LimitEnd.{LimitEnd}
-use Rattle.pepa_checks.specs.declared.limit_end.LimitEnd.TheVariants.{TooMany, Memory}
+use Rattle.fault_ends.specs.declared.end.End.{End}
+use Rattle.fault_ends.specs.declared.end.End.TheVariants.{Fault, Memory}
+use Rattle.fault_ends.specs.Answers.{OkOrFault}
+use Rattle.pepa_checks.specs.declared.over_limit.OverLimit.{OverLimit}
 use Rattle.pepa_checks.specs.declared.system_size.Measure.TheVariants as measure
 use Rattle.pepa_checks.specs.Outline.{Outline, outline_of, sets_of}
 use Rattle.pepa_checks.specs.Activities.{written_leaves}
@@ -18,8 +20,8 @@ use Rattle.pepa_checks.specs.Limits.{PassesLimit}
 use Rattle.pepa_checks.specs.Summands.{ArePerformed}
 use Rattle.pepa_checks.specs.Built.{IsBuilt}
 use Rattle.pepa_checks.specs.LeavesAnswers.{AreLeaves}
-use Rattle.pepa_checks.specs.ActivityLists.{LeafChoices, IsActivitiesEnd}
-use Rattle.pepa_checks.specs.CountedFiles.{IsCounted, Counts}
+use Rattle.pepa_checks.specs.ActivityLists.{LeafChoices, OpensIntoMany, choices_outline}
+use Rattle.pepa_checks.specs.CountedFiles.{IsCounted}
 use Rattle.pepa_checks.proofs.Openings.{leaf_opens}
 use Rattle.pepa_checks.proofs.Expansions.{system_expands}
 use Rattle.pepa_checks.proofs.Counted.{EachOpens, TellsSize, few_activities, many_activities, many_leaves, few_leaves, many_nodes, few_nodes}
@@ -53,9 +55,9 @@ module _ (actions : List (List ℕ)) (compounds : List Bool) (bodies : List Name
       let tree = leaf_opens (sets_of bodies system) compounds bodies system sequential_order built sequential_first number leaf is in
       (tree.0, tree.1)
 
-  pub performed_end : (found : Leaves) (are : AreLeaves outline compounds bodies written found) (end : LimitEnd) → IsActivitiesEnd (choices found are) end → Counts actions compounds bodies system (Err end)
-  performed_end found are TooMany many = inr (inr (inr (inl (many_activities outline each_opens many))))
-  performed_end found are Memory h = tt
+  pub performed_end : {T U : Type 0} (P : T → Type 0) (Q : U → Type 0) (found : Leaves) (are : AreLeaves outline compounds bodies written found) (end : End OverLimit) → OkOrFault (Err end) P (λ _. OpensIntoMany (choices_outline (choices found are))) → OkOrFault (Err end) Q (λ _. PassesLimit actions outline)
+  performed_end P Q found are (Fault over) many = inr (inr (inr (inl (many_activities outline each_opens many))))
+  performed_end P Q found are Memory h = tt
 
   pub many_leaves_in : (large : Bool) → TellsSize measure.Leaves outline large → IsTrue large → PassesLimit actions outline
   many_leaves_in large tells is =

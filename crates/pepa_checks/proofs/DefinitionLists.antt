@@ -7,12 +7,10 @@ use Rattle.pepa_model.specs.Expression.{Definition}
 use Rattle.pepa_resolver.specs.declared.named.NamedProcess.{NamedProcess}
 use Rattle.pepa_resolver.specs.Named.{Named, NamedConstant, NamedPrefix, NamedChoice, NamedCoop, NamedHide, first_at, sequential_parts}
 use Rattle.pepa_resolver.specs.NamedTypes.{named_of, bodies_of}
-use Rattle.pepa_resolver.specs.Structure.{has_system, IsCompound, IsSystem, NotSequentialAt}
+use Rattle.pepa_checks.specs.Structure.{has_system, IsCompoundConstant, IsSystem, NotSequentialAt}
 use Rattle.pepa_resolver.specs.Faults.{HasNone}
-use Rattle.pepa_resolver.specs.Graphs.{IsTableOf}
-use Rattle.pepa_resolver.proofs.EdgeLists.{take_body}
-use Rattle.pepa_resolver.proofs.Findings.{contains_here, contains_there}
-use Rattle.pepa_resolver.proofs.Bodies.{contains_from_get}
+use Rattle.node_orders.specs.Graphs.{IsTableOf}
+use Rattle.node_orders.proofs.Elements.{take_next, contains_here, contains_there, contains_from_get}
 use Rattle.pepa_checks.specs.Outline.{definition_in, definitions_in}
 use Rattle.pepa_checks.specs.Sequences.{HasSequentialParts, AreBodies}
 
@@ -30,8 +28,8 @@ definitions_more compounds sets flags bodies n flag process made one_each is_fla
     let short : length (take n flags) ≡ length (bodies_of (take n bodies)) = length-take n flags ∙ ap (min n) one_each ∙ sym (length-take n bodies) ∙ sym (length-map (take n bodies) named_of) in
     ap (λ (l : List Definition). l ++ definition_in compounds sets flag (named_of process) ∷ []) so_far
     ∙ sym (definitions-push compounds sets (take n flags) flag (bodies_of (take n bodies)) (named_of process) short)
-    ∙ sym (ap (λ (l : List Bool). definitions_in compounds sets l (bodies_of (take n bodies) ++ named_of process ∷ [])) (take_body flags n flag is_flag))
-    ∙ sym (ap (definitions_in compounds sets (take (n + 1) flags)) (ap bodies_of (take_body bodies n process is_body) ∙ map_push named_of (take n bodies) process))
+    ∙ sym (ap (λ (l : List Bool). definitions_in compounds sets l (bodies_of (take n bodies) ++ named_of process ∷ [])) (take_next flags n flag is_flag))
+    ∙ sym (ap (definitions_in compounds sets (take (n + 1) flags)) (ap bodies_of (take_next bodies n process is_body) ∙ map_push named_of (take n bodies) process))
 
 -- ---- what a sound structure says of one process
 
@@ -62,7 +60,7 @@ module _ (compounds : List Bool) (bodies : List Named) (system : Named) (sound :
   pub system_parts : HasSequentialParts system
   system_parts = process_parts system (Contains-append_right bodies (system ∷ []) system (contains_here system []))
 
-  pub are_bodies : length compounds ≡ length bodies → IsTableOf (IsCompound bodies) compounds → AreBodies compounds bodies
+  pub are_bodies : length compounds ≡ length bodies → IsTableOf (IsCompoundConstant bodies) compounds → AreBodies compounds bodies
   are_bodies one_each table = record {
     parts = λ c body is. process_parts body (Contains-append_left bodies (system ∷ []) body (contains_from_get bodies c body is));
     plain = λ c body is flag. no_system (has_system body) (λ e. let marked = table.complete c (0, (body, is, e)) in absurd cc);

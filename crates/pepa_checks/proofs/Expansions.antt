@@ -6,16 +6,17 @@ use Rattle.std.proofs.lemmas.List.Elements.{Contains-append_left, Contains-appen
 use Rattle.pepa_model.specs.Expression.{Const, Shape, LeafShape, ConstShape, Definition, IsCompound}
 use Rattle.pepa_model.specs.Expanded.{Expanded, LeafTree, ConstTree, CoopTree, HideTree, Expands, height_of}
 use Rattle.pepa_resolver.specs.Named.{Named, NamedConstant, NamedPrefix, NamedChoice, NamedCoop, NamedHide, constants_named}
-use Rattle.pepa_resolver.specs.Structure.{CompoundEdge}
-use Rattle.pepa_resolver.specs.Graphs.{IsOrder}
+use Rattle.pepa_checks.specs.Structure.{CompoundEdge}
+use Rattle.node_orders.specs.Graphs.{IsOrder}
 use Rattle.pepa_resolver.specs.Numbers.{place_in}
-use Rattle.pepa_resolver.proofs.Findings.{contains_here}
+use Rattle.node_orders.proofs.Elements.{contains_here}
 use Rattle.pepa_checks.specs.Outline.{is_compound, expression_in, shape_in, definitions_in, outline_with}
 use Rattle.pepa_checks.specs.Heights.{height_in, most_height}
 use Rattle.pepa_checks.specs.Built.{IsBuilt}
 use Rattle.pepa_checks.proofs.DefinitionsByNumber.{compound_at, compound_by, flag_true}
 use Rattle.pepa_checks.proofs.PlainProcesses.{body_among}
-use Rattle.pepa_checks.proofs.AlongOrders.{step, most_steps, along_order}
+use Rattle.node_orders.proofs.AlongOrders.{along_order}
+use Rattle.pepa_checks.proofs.Openings.{step, most_steps}
 
 -- the system expands into a tree that is no higher
 pub record ExpandsWithin (definitions : List Definition) (most : ℕ) (shape : Shape) : Type 0 where
@@ -80,7 +81,7 @@ module _ (sets : List (List ℕ)) (compounds : List Bool) (bodies : List Named) 
       let few : length bodies ≤ 1024 = built.few in
       let inside : c < length compounds = slice_get_within compounds c true set in
       expands_higher definitions (length bodies * step) most_steps (ConstShape c) (omega arith)
-      (along_order (CompoundEdge bodies) (length bodies) order ordered Holds
+      (along_order step (CompoundEdge bodies) (length bodies) order ordered Holds
       (λ k m d le holds set_too. expands_higher definitions k m (ConstShape d) le (holds set_too)) next c (omega arith) set)
 
   -- a process of the file, as a system, expands

@@ -8,16 +8,16 @@ use Rattle.pepa_model.specs.Expression.{Expression, Const}
 use Rattle.pepa_resolver.specs.declared.named.NamedProcess.{NamedProcess}
 use Rattle.pepa_resolver.specs.Named.{Named, NamedConstant, NamedPrefix, NamedChoice, NamedCoop, NamedHide, first_at, sequential_parts}
 use Rattle.pepa_resolver.specs.NamedTypes.{named_of, bodies_of}
-use Rattle.pepa_resolver.specs.Structure.{has_system, IsCompound, NotSequentialAt}
+use Rattle.pepa_checks.specs.Structure.{has_system, IsCompoundConstant, NotSequentialAt}
 use Rattle.pepa_resolver.specs.Faults.{HasNone}
-use Rattle.pepa_resolver.specs.Graphs.{IsTableOf}
+use Rattle.node_orders.specs.Graphs.{IsTableOf}
 use Rattle.pepa_checks.specs.declared.nodes.Node.TheVariants as node
 use Rattle.pepa_checks.specs.declared.summand.Summand.{Summand}
 use Rattle.pepa_checks.specs.declared.expressions.Walk.{Walk}
 use Rattle.pepa_checks.specs.declared.expressions.Head.{Head}
 use Rattle.pepa_checks.specs.Activities.{written_followers, written_components, written_in}
-use Rattle.pepa_checks.specs.NodeTables.{expressions_by, Builds, IsNodeTable, Grows, Has}
-use Rattle.pepa_checks.specs.Candidates.{AreOperands, IsCandidate, Stands, Walked, Put, has_system_part, Line, sequential_lines, IsHead, AreHeads, LineWalked, IsFileWalk, IsWalking}
+use Rattle.pepa_checks.specs.NodeTables.{expressions_by, Builds, IsNodeTable, ExtendsNodes, Has}
+use Rattle.pepa_checks.specs.Candidates.{AreOperands, IsCandidate, Stands, Walked, Put, has_system_part, ConstantLine, sequential_lines, IsHead, AreHeads, LineWalked, IsFileWalk, IsWalking}
 use Rattle.pepa_checks.proofs.ListReads.{true_or_false, one_read, read_within}
 use Rattle.pepa_checks.proofs.NodeSteps.{grows_itself, grows_again}
 use Rattle.pepa_checks.proofs.WalkSteps.{operands_grown, number_grown, stands_grown}
@@ -58,7 +58,7 @@ all_parts bodies system process none there = plain_parts process each
       | inr not ↦ not
     ]
 
-pub plain_body : (compounds : List Bool) (bodies : List Named) (c : ℕ) (body : Named) → IsTableOf (IsCompound bodies) compounds → slice_get compounds c ≡ Some false → slice_get bodies c ≡ Some body → has_system body ≡ false
+pub plain_body : (compounds : List Bool) (bodies : List Named) (c : ℕ) (body : Named) → IsTableOf (IsCompoundConstant bodies) compounds → slice_get compounds c ≡ Some false → slice_get bodies c ≡ Some body → has_system body ≡ false
 plain_body compounds bodies c body table flag read = elim (true_or_false (has_system body)) [
   | inl holds ↦
       let marked = table.complete c (zero, (body, read, holds)) in
@@ -82,20 +82,20 @@ coop_put old mid new compounds left right written behind front = record {
 
 -- ---- heads
 
-head_grown : (es fs : List Expression) (line : Line) (head : Head) → Grows es fs → IsHead es line head → IsHead fs line head
+head_grown : (es fs : List Expression) (line : ConstantLine) (head : Head) → ExtendsNodes es fs → IsHead es line head → IsHead fs line head
 head_grown es fs line head grows h = record {
   constant_is = h.constant_is;
   number_is = number_grown es fs head.number (Const line.constant) grows h.number_is;
   operands_are = operands_grown es fs line.body head.operands grows h.operands_are;
 }
 
-pub heads_grown : (es fs : List Expression) (lines : List Line) (heads : List Head) → Grows es fs → AllZip (IsHead es) lines heads → AllZip (IsHead fs) lines heads
+pub heads_grown : (es fs : List Expression) (lines : List ConstantLine) (heads : List Head) → ExtendsNodes es fs → AllZip (IsHead es) lines heads → AllZip (IsHead fs) lines heads
 heads_grown es fs [] [] grows h = h
 heads_grown es fs [] (head ∷ heads) grows h = h
 heads_grown es fs (line ∷ lines) [] grows h = h
 heads_grown es fs (line ∷ lines) (head ∷ heads) grows h = (head_grown es fs line head grows h.0, heads_grown es fs lines heads grows h.1)
 
-pub line_walked : (old mid new : Walk) (nothing operands : List Summand) (heads after : List Head) (written : List Named) (lines : List Line) (constant : ℕ) (body : Named) (head : Head) (whole : ℕ)
+pub line_walked : (old mid new : Walk) (nothing operands : List Summand) (heads after : List Head) (written : List Named) (lines : List ConstantLine) (constant : ℕ) (body : Named) (head : Head) (whole : ℕ)
     → nothing ≡ []
     → Walked old mid nothing operands written body whole
     → new.candidates ≡ mid.candidates
@@ -110,7 +110,7 @@ line_walked old mid new nothing operands heads after written lines constant body
     let olds = expressions_by old.nodes.keys in
     let mids = expressions_by mid.nodes.keys in
     let news = expressions_by new.nodes.keys in
-    let line : Line = record { constant = constant; body = body } in
+    let line : ConstantLine = record { constant = constant; body = body } in
     let turned : reverse after ≡ head ∷ reverse heads = ap reverse longer ∙ reverse-append heads (head ∷ []) in
     let is : IsHead news line head = record {
       constant_is = constant_is;
@@ -177,7 +177,7 @@ module _ (compounds : List Bool) (bodies : List Named) (system : Named) where
       }
 
   pub sequential_line : (old new : Walk) (heads after : List Head) (left : ℕ) (body : Named) → slice_get compounds left ≡ Some false → slice_get bodies left ≡ Some body → IsWalking compounds bodies system old heads (suc left)
-      → ((written : List Named) (lines : List Line) → Stands old written → AreHeads old lines heads → LineWalked new after written lines (record { constant = left; body = body }))
+      → ((written : List Named) (lines : List ConstantLine) → Stands old written → AreHeads old lines heads → LineWalked new after written lines (record { constant = left; body = body }))
       → IsWalking compounds bodies system new after left
   sequential_line old new heads after left body flag_is body_is so_far more =
       let before = written_in compounds (drop (suc left) compounds) (drop (suc left) bodies) in
@@ -202,7 +202,7 @@ module _ (compounds : List Bool) (bodies : List Named) (system : Named) where
       compound_line old new heads (from - 1) body flag_is body_is (subst (λ n. IsWalking compounds bodies system old heads n) same so_far) more
 
   pub sequential_more : (old new : Walk) (heads after : List Head) (from : ℕ) (body : Named) → 0 < from → slice_get compounds (from - 1) ≡ Some false → slice_get bodies (from - 1) ≡ Some body → IsWalking compounds bodies system old heads from
-      → ((written : List Named) (lines : List Line) → Stands old written → AreHeads old lines heads → LineWalked new after written lines (record { constant = from - 1; body = body }))
+      → ((written : List Named) (lines : List ConstantLine) → Stands old written → AreHeads old lines heads → LineWalked new after written lines (record { constant = from - 1; body = body }))
       → IsWalking compounds bodies system new after (from - 1)
   sequential_more old new heads after from body some flag_is body_is so_far more =
       let same : from ≡ suc (from - 1) = omega (arith, some) in

@@ -4,10 +4,10 @@ use Rattle.std.specs.List.{Contains, list_any, position_or_len, range_with_len}
 use Rattle.std.proofs.lemmas.Bool.Decides.{nat_tests}
 use Rattle.std.proofs.lemmas.Slice.Eq.{bytes_eq-Decides}
 use Rattle.pepa_model.specs.Leaves.{without, each_once}
-use Rattle.pepa_resolver.specs.Named.{set_of}
+use Rattle.pepa_resolver.specs.Named.{ascending_set}
 use Rattle.pepa_resolver.specs.Numbers.{first_places, place_in}
 use Rattle.pepa_resolver.specs.NumberSteps.{with_name, with_names}
-use Rattle.pepa_resolver.proofs.Findings.{no_element, contains_here, contains_there, contains_cases}
+use Rattle.node_orders.proofs.Elements.{no_element, contains_here, contains_there, contains_cases}
 use Rattle.pepa_resolver.proofs.NumberNames.{with_name-there, with_name-new, append-nothing, names_together}
 use Rattle.pepa_resolver.proofs.Ascending.{Ascends, set_ascends, set_has, set_no_more}
 
@@ -82,9 +82,9 @@ ascending_grows from to (x ∷ xs) up le below has = by (nat_lt x from) refl (λ
         )
 
 -- a set makes known what its numbers as they are written make known
-pub set_grows : (from to : ℕ) (xs : List ℕ) → Grows from xs to → Grows from (set_of xs) to
+pub set_grows : (from to : ℕ) (xs : List ℕ) → Grows from xs to → Grows from (ascending_set xs) to
 set_grows from to xs g =
-    ascending_grows from to (set_of xs) (set_ascends xs) (grows_up from to xs g)
+    ascending_grows from to (ascending_set xs) (set_ascends xs) (grows_up from to xs g)
     (λ x among. grows_below from to xs g x (set_no_more xs x among))
     (λ x low high. set_has xs x (grows_has from to xs g x low high))
 

@@ -4,17 +4,16 @@ use Rattle.std.specs.List.{AllByRecursion}
 use Rattle.pepa_rates.specs.declared.rate.Rate.{Rate}
 use Rattle.pepa_lexer.specs.declared.kinds.Token.{Token}
 use Rattle.pepa_reader.specs.declared.trees.FileTree.{FileTree}
-use Rattle.pepa_reader.specs.Terminals.{terminals}
+use Rattle.token_grammar.specs.Terminals.{terminals, name_at}
 use Rattle.pepa_reader.specs.Trees.{ProcessNode, ConstantAt, PrefixAt, ChoiceOf, CoopAt, HideOf, ProcessLineNode, file_node_of}
 use Rattle.pepa_reader.specs.FileAnswers.{IsFileTree}
 use Rattle.pepa_model.specs.Expression.{Expression, Const, Prefixed, Chosen}
 use Rattle.pepa_model.specs.Opened.{Opened, OpenPrefix, OpenChoice, OpenConst}
-use Rattle.pepa_resolver.specs.Parts.{name_at}
 use Rattle.pepa_resolver.specs.Named.{Named, NamedConstant, NamedPrefix, NamedChoice, NamedCoop, NamedHide, Naming, named, first_at}
 use Rattle.pepa_resolver.specs.Numbers.{naming_of}
-use Rattle.pepa_resolver.specs.StructuredFiles.{IsNumbered}
+use Rattle.pepa_resolver.specs.ResolvedFiles.{IsNumberedFile}
 use Rattle.pepa_resolver.proofs.Within.{EachInProcess, EachInFile, Inside}
-use Rattle.pepa_resolver.proofs.Structured.{each_inside, first_each}
+use Rattle.pepa_checks.proofs.Structured.{each_inside, first_each}
 use Rattle.pepa_checks.specs.Outline.{is_compound}
 use Rattle.pepa_checks.specs.Activities.{sites, written_followers, written_components, written_in, written_leaves, IsFirstWritten}
 
@@ -123,7 +122,7 @@ at_index P (x ∷ xs) (suc k) i h is = at_index P xs k i h.1 is
 
 -- ---- in a file
 
-module _ (input : List ℕ) (tokens : List Token) (tree : FileTree) (values : List Rate) (bodies : List Named) (system : Named) (is_tree : IsFileTree (terminals input tokens) tree) (numbered : IsNumbered input tokens (file_node_of tree) values bodies system) where
+module _ (input : List ℕ) (tokens : List Token) (tree : FileTree) (values : List Rate) (bodies : List Named) (system : Named) (is_tree : IsFileTree (terminals input tokens) tree) (numbered : IsNumberedFile input tokens (file_node_of tree) values bodies system) where
   abbrev naming : Naming
   naming = naming_of (name_at input tokens) tokens (file_node_of tree) values
 

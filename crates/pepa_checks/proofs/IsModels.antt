@@ -8,7 +8,7 @@ use Rattle.std.proofs.lemmas.List.Elements.{Contains-append_left, Contains-appen
 use Rattle.pepa_lexer.specs.declared.kinds.Token.{Token}
 use Rattle.pepa_lexer.specs.TokenLists.{IsTokens}
 use Rattle.pepa_reader.specs.declared.trees.FileTree.{FileTree}
-use Rattle.pepa_reader.specs.Terminals.{terminals}
+use Rattle.token_grammar.specs.Terminals.{terminals, name_at}
 use Rattle.pepa_reader.specs.Trees.{RateNode, ProcessLineNode, FileNode, file_node_of}
 use Rattle.pepa_reader.specs.FileAnswers.{IsFileTree}
 use Rattle.pepa_model.specs.Expression.{Expression, Shape, IsCompound}
@@ -17,17 +17,16 @@ use Rattle.pepa_model.specs.Expanded.{leaves_in, nodes_in}
 use Rattle.pepa_model.specs.Spelling.{IsWrittenRate, HasWrittenShape}
 use Rattle.pepa_model.specs.PepaModel.{PepaModel, IsModel, IsSpelled, IsSoundLeaf, IsCompoundBody, HasTree, StandsForTransition, HasSmallTree, IsNumbered, IsWithinLimits, IsActionSet, AreUnmixed, IsMixedAt}
 use Rattle.pepa_model.specs.declared.term.Activity.{Activity}
-use Rattle.pepa_resolver.specs.Parts.{name_at, process_ats, processes_of}
+use Rattle.pepa_resolver.specs.Parts.{process_ats, processes_of}
 use Rattle.pepa_resolver.specs.Outcomes.{Good}
 use Rattle.pepa_resolver.specs.Named.{Named, Naming, named, constants_named}
 use Rattle.pepa_resolver.specs.Numbers.{words_in, constants_of, actions_of, naming_of, named_bodies, named_system, IsInRange}
-use Rattle.pepa_resolver.specs.Structure.{CompoundEdge, UnguardedEdge}
-use Rattle.pepa_resolver.specs.Graphs.{AreBelow, IsOrder}
-use Rattle.pepa_resolver.proofs.Findings.{contains_here}
-use Rattle.pepa_resolver.proofs.Bodies.{contains_from_get}
-use Rattle.pepa_resolver.proofs.NumberedFile.{in_range}
+use Rattle.pepa_checks.specs.Structure.{CompoundEdge, UnguardedEdge}
+use Rattle.node_orders.specs.Graphs.{AreBelow, IsOrder}
+use Rattle.node_orders.proofs.Elements.{contains_here, contains_from_get}
+use Rattle.pepa_resolver.proofs.NumberedParts.{in_range}
 use Rattle.pepa_checks.specs.Outline.{Outline, sets_written, sets_of, shape_in, definitions_in}
-use Rattle.pepa_checks.specs.Activities.{activity_in, HasActivities, HasNoMixed}
+use Rattle.pepa_checks.specs.Activities.{activity_in, AreActivitiesOf, HasNoMixed}
 use Rattle.pepa_checks.specs.Sequences.{HasSequentialParts, AreBodies}
 use Rattle.pepa_checks.specs.Built.{IsBuilt}
 use Rattle.pepa_checks.specs.CheckedFiles.{Sound, outline, IsOverLimit}
@@ -93,7 +92,7 @@ record AreOpened (o : Outline) (leaves : List Expression) (activities : List (Li
   opens : AllZip (Opens o.definitions) leaves opened
   total : sum_by (λ tree. length (moves tree)) opened ≡ sum_by length activities
 
-are_opened : (o : Outline) (leaves : List Expression) (activities : List (List Activity)) → AllZip (HasActivities o) leaves activities → AreOpened o leaves activities
+are_opened : (o : Outline) (leaves : List Expression) (activities : List (List Activity)) → AllZip (AreActivitiesOf o) leaves activities → AreOpened o leaves activities
 are_opened o [] [] h = record { opened = []; opens = tt; total = refl }
 are_opened o [] (a ∷ activities) h = absurd h
 are_opened o (e ∷ leaves) [] h = absurd h
@@ -114,7 +113,7 @@ are_opened o (e ∷ leaves) (a ∷ activities) h =
 
 module _ (input : List ℕ) (tokens : List Token) (tree : FileTree) (are : IsTokens input tokens) (is_tree : IsFileTree (terminals input tokens) tree) (sound : Sound input tokens (file_node_of tree))
     (compound_order sequential_order : List ℕ) (compounds_first : IsOrder (CompoundEdge sound.bodies) (length sound.bodies) compound_order) (sequential_first : IsOrder (UnguardedEdge sound.bodies) (length sound.bodies) sequential_order)
-    (activities : List (List Activity)) (within : ¬ IsOverLimit sound) (unmixed : HasNoMixed (outline sound)) (are_activities : AllZip (HasActivities (outline sound)) (outline sound).leaves activities) where
+    (activities : List (List Activity)) (within : ¬ IsOverLimit sound) (unmixed : HasNoMixed (outline sound)) (are_activities : AllZip (AreActivitiesOf (outline sound)) (outline sound).leaves activities) where
   abbrev file : FileNode
   file = file_node_of tree
 
@@ -184,8 +183,8 @@ module _ (input : List ℕ) (tokens : List Token) (tree : FileTree) (are : IsTok
   sound_leaf : (number : ℕ) (e : Expression) → slice_get m.leaves number ≡ Some e → IsSoundLeaf m number e
   sound_leaf number e at =
       let low = leaf_opens sets compounds bodies sound.system sequential_order built sequential_first number e at in
-      let found = zip_at (HasActivities (outline sound)) (outline sound).leaves activities number e are_activities at in
-      let has : HasActivities (outline sound) e found.0 = found.2 in
+      let found = zip_at (AreActivitiesOf (outline sound)) (outline sound).leaves activities number e are_activities at in
+      let has : AreActivitiesOf (outline sound) e found.0 = found.2 in
       let opened : Opened = has.0 in
       let opens : Opens m.bodies e opened = has.1 in
       let same : low.0 ≡ opened = one_opening m.bodies e low.0 opened low.1 opens in
@@ -206,7 +205,7 @@ module _ (input : List ℕ) (tokens : List Token) (tree : FileTree) (are : IsTok
 
   are_unmixed : (number : ℕ) (list : List Activity) → slice_get activities number ≡ Some list → AreUnmixed list
   are_unmixed number list at place mixed =
-      let found = zip_back (HasActivities (outline sound)) (outline sound).leaves activities number list are_activities at in
+      let found = zip_back (AreActivitiesOf (outline sound)) (outline sound).leaves activities number list are_activities at in
       unmixed number found.0 found.1 (found.2.0, found.2.1, (place, subst (λ (l : List Activity). IsMixedAt l place) found.2.2 mixed))
 
   below_all : (process : Named) → IsInRange (length m.constants) (length m.actions) process → AreBelow (length bodies) (constants_named process)
@@ -264,7 +263,7 @@ module _ (input : List ℕ) (tokens : List Token) (tree : FileTree) (are : IsTok
     bodies = one_each;
     tau = refl;
     leaves = sound_leaf;
-    activities = zip_length (HasActivities (outline sound)) (outline sound).leaves activities are_activities;
+    activities = zip_length (AreActivitiesOf (outline sound)) (outline sound).leaves activities are_activities;
     unmixed = are_unmixed;
     sets = action_set;
     compounds = compound_body;

@@ -15,7 +15,7 @@ use Rattle.pepa_checks.specs.Outline.{expression_in, outline_with, Outline}
 use Rattle.pepa_checks.specs.Activities.{written_leaves}
 use Rattle.pepa_checks.specs.Summands.{summands_in, leaf_summands, AreConstantLeaves}
 use Rattle.pepa_checks.specs.Candidates.{AreOperands, IsCandidate, sequential_lines}
-use Rattle.pepa_checks.specs.LeafTables.{with_expression, with_expressions, Text, chooser, IsChoiceOf, IsNodeOf, IsLeafTable, turned}
+use Rattle.pepa_checks.specs.LeafTables.{with_expression, with_expressions, Text, chooser, IsChoiceOf, IsNodeAt, IsLeafTable, renumbered}
 use Rattle.pepa_checks.specs.LeavesAnswers.{AreLeaves, numbers_from}
 use Rattle.pepa_checks.proofs.ListReads.{true_or_false, some_same, some_none, read_more}
 use Rattle.pepa_checks.proofs.LeafSteps.{place_agree}
@@ -24,18 +24,18 @@ use Rattle.pepa_checks.proofs.LeafLoops.{AddsCandidates, text, zip_none, zip_lon
 
 -- ---- operands
 
-module _ (here : Text) (numbers : List ℕ) (leaves : List Expression) (zipped : AllZip (IsNodeOf here.nodes) numbers leaves) where
-  operands_turned : (process : Named) (operands : List Summand) → AreOperands here.nodes process operands → turned numbers operands ≡ summands_in leaves process
-  operands_turned (NamedConstant at c) operands h = ap (turned numbers) h
+module _ (here : Text) (numbers : List ℕ) (leaves : List Expression) (zipped : AllZip (IsNodeAt here.nodes) numbers leaves) where
+  operands_turned : (process : Named) (operands : List Summand) → AreOperands here.nodes process operands → renumbered numbers operands ≡ summands_in leaves process
+  operands_turned (NamedConstant at c) operands h = ap (renumbered numbers) h
   operands_turned (NamedPrefix at action rate next) operands h =
-      ap (turned numbers) h.2 ∙ ap (λ n. Activity at action rate n ∷ []) (place_agree here h.0 (expression_in next) h.1 numbers leaves zipped)
+      ap (renumbered numbers) h.2 ∙ ap (λ n. Activity at action rate n ∷ []) (place_agree here h.0 (expression_in next) h.1 numbers leaves zipped)
   operands_turned (NamedChoice left right) operands h =
-      ap (turned numbers) h.4
+      ap (renumbered numbers) h.4
       ∙ ap reverse (map-append _ h.1 h.0)
       ∙ reverse-append (map _ h.1) (map _ h.0)
       ∙ (λ i. operands_turned left h.0 h.2 i ++ operands_turned right h.1 h.3 i)
-  operands_turned (NamedCoop left right set) operands h = ap (turned numbers) h
-  operands_turned (NamedHide inner set) operands h = ap (turned numbers) h
+  operands_turned (NamedCoop left right set) operands h = ap (renumbered numbers) h
+  operands_turned (NamedHide inner set) operands h = ap (renumbered numbers) h
 
 chosen_summands : (leaves : List Expression) (bodies : List Named) (process : Named) → leaf_summands leaves bodies process ≡ summands_in leaves (chooser bodies process)
 chosen_summands leaves bodies (NamedConstant at c) = refl
@@ -132,7 +132,7 @@ module _ (compounds : List Bool) (bodies : List Named) (system : Named) (sets : 
 
   pub leaves_found : (table : LeafTable) (candidates : List Candidate) (found : Leaves) → length compounds ≡ length bodies → AddsCandidates compounds bodies system table candidates → candidates ≡ [] → length table.numbers.keys ≤ 65535
       → found.expressions ≡ table.expressions
-      → found.summands ≡ map (turned table.numbers.keys) table.operands
+      → found.summands ≡ map (renumbered table.numbers.keys) table.operands
       → found.constants ≡ numbers_from 0 compounds
       → AreLeaves whole compounds bodies (written_leaves compounds bodies system) found
   leaves_found table candidates found sizes so_far none few expressions summands constants =
@@ -143,13 +143,13 @@ module _ (compounds : List Bool) (bodies : List Named) (system : Named) (sets : 
       let are : with_expressions [] (listed compounds bodies so_far.before) ≡ whole.leaves =
       ap (λ l. with_expressions [] (listed compounds bodies l)) all ∙ sym (leaves_are compounds sets bodies system) in
       let end : IsLeafTable here whole.leaves table = subst (λ l. IsLeafTable here l table) are so_far.table_is in
-      let long : length table.numbers.keys ≡ length whole.leaves = zip_long compounds bodies system (IsNodeOf so_far.nodes) table.numbers.keys whole.leaves end.numbers_are in
+      let long : length table.numbers.keys ≡ length whole.leaves = zip_long compounds bodies system (IsNodeAt so_far.nodes) table.numbers.keys whole.leaves end.numbers_are in
       record {
         expressions_are = ap (map expression_of) expressions ∙ end.expressions_are;
         summands_are = record {
-          one_each = ap length summands ∙ length-map table.operands (turned table.numbers.keys) ∙ sym (zip_long compounds bodies system (IsChoiceOf here) whole.leaves table.operands end.operands_are);
+          one_each = ap length summands ∙ length-map table.operands (renumbered table.numbers.keys) ∙ sym (zip_long compounds bodies system (IsChoiceOf here) whole.leaves table.operands end.operands_are);
           each = λ number leaf list leaf_is list_is.
-              let read = map_read (turned table.numbers.keys) table.operands number list (subst (λ l. slice_get l number ≡ Some list) summands list_is) in
+              let read = map_read (renumbered table.numbers.keys) table.operands number list (subst (λ l. slice_get l number ≡ Some list) summands list_is) in
               let choice = zip_read (IsChoiceOf here) whole.leaves table.operands number leaf read.0 end.operands_are leaf_is read.1 in
               record {
                 process = choice.process;

@@ -8,8 +8,7 @@ use Rattle.pepa_model.specs.Opened.{Opened, OpenPrefix, OpenChoice, OpenConst, O
 use Rattle.pepa_model.specs.Leaves.{same_expression, followers, components, components_defined, sequential_constants, leaves_of}
 use Rattle.pepa_model.specs.PepaModel.{PepaModel, StandsForTransition, IsNamed}
 use Rattle.pepa_model.specs.declared.term.Activity.{Activity}
-use Rattle.pepa_resolver.proofs.Findings.{no_element, contains_here, contains_there, contains_cases}
-use Rattle.pepa_resolver.proofs.Bodies.{contains_from_get}
+use Rattle.node_orders.proofs.Elements.{no_element, contains_here, contains_there, contains_cases, contains_from_get}
 use Rattle.pepa_checks.specs.Activities.{leaf_number, activity_in, activities_in}
 use Rattle.pepa_checks.proofs.LeafProcesses.{once_from}
 use Rattle.pepa_model.proofs.DistinctLeaves.{same_expression-Decides}

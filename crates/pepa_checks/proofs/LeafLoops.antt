@@ -7,7 +7,7 @@ use Rattle.pepa_model.specs.Expression.{Expression, Const, Prefixed, Chosen}
 use Rattle.pepa_model.specs.Leaves.{same_expression}
 use Rattle.pepa_resolver.specs.Named.{Named, NamedConstant, NamedPrefix, NamedChoice, NamedCoop, NamedHide}
 use Rattle.pepa_resolver.specs.NamedTypes.{named_of}
-use Rattle.pepa_resolver.specs.Structure.{has_system}
+use Rattle.pepa_checks.specs.Structure.{has_system}
 use Rattle.pepa_checks.specs.declared.summand.Summand.{Summand}
 use Rattle.pepa_checks.specs.declared.expressions.Candidate.{Candidate}
 use Rattle.pepa_checks.specs.declared.expressions.Head.{Head}
@@ -16,8 +16,8 @@ use Rattle.pepa_checks.specs.declared.leaf_table.LeafTable.{LeafTable}
 use Rattle.pepa_checks.specs.Outline.{expression_in, outline_with}
 use Rattle.pepa_checks.specs.Activities.{written_leaves}
 use Rattle.pepa_checks.specs.NodeTables.{expressions_by}
-use Rattle.pepa_checks.specs.Candidates.{AreOperands, IsCandidate, Line, sequential_lines, IsHead, IsFileWalk}
-use Rattle.pepa_checks.specs.LeafTables.{with_expression, with_expressions, Text, chooser, IsChoiceOf, IsNodeOf, IsLeafTable, Adds}
+use Rattle.pepa_checks.specs.Candidates.{AreOperands, IsCandidate, ConstantLine, sequential_lines, IsHead, IsFileWalk}
+use Rattle.pepa_checks.specs.LeafTables.{with_expression, with_expressions, Text, chooser, IsChoiceOf, IsNodeAt, IsLeafTable, AddsNode}
 use Rattle.pepa_checks.proofs.ListReads.{some_same, some_none, read_or}
 use Rattle.pepa_checks.proofs.OutlineLeaves.{line_const, listed, with_expressions-append, length_grows, length_limit, any_listed, leaves_are}
 use Rattle.pepa_checks.proofs.WrittenLeaves.{IsPlain, among_middle}
@@ -25,7 +25,7 @@ use Rattle.pepa_checks.proofs.WrittenLeaves.{IsPlain, among_middle}
 -- ---- lines
 
 -- a line's place among those from a number on
-lines_read : (k : ℕ) (flags : List Bool) (bodies : List Named) (line : Line) → Among line (sequential_lines k flags bodies)
+lines_read : (k : ℕ) (flags : List Bool) (bodies : List Named) (line : ConstantLine) → Among line (sequential_lines k flags bodies)
     → (j : ℕ) × (line.constant ≡ j + k) × (slice_get bodies j ≡ Some line.body)
 lines_read k [] bodies line h = absurd h
 lines_read k (flag ∷ flags) [] line h = absurd h
@@ -39,7 +39,7 @@ lines_read k (false ∷ flags) (body ∷ bodies) line (inr h) =
     let rest = lines_read (suc k) flags bodies line h in
     (suc rest.0, omega (arith, rest.1), rest.2)
 
-line_body : (flags : List Bool) (bodies : List Named) (line : Line) → Among line (sequential_lines 0 flags bodies) → slice_get bodies line.constant ≡ Some line.body
+line_body : (flags : List Bool) (bodies : List Named) (line : ConstantLine) → Among line (sequential_lines 0 flags bodies) → slice_get bodies line.constant ≡ Some line.body
 line_body flags bodies line h =
     let read = lines_read 0 flags bodies line h in
     let same : read.0 ≡ line.constant = omega (arith, read.1) in
@@ -105,8 +105,8 @@ module _ (compounds : List Bool) (bodies : List Named) (system : Named) where
   pub record AddsHeads (table : LeafTable) (heads : List Head) (candidates : List Candidate) : Type 0 where
     pub nodes : List Expression
     pub apart : Apart nodes
-    pub before : List Line
-    pub rest : List Line
+    pub before : List ConstantLine
+    pub rest : List ConstantLine
     pub lines_are : sequential_lines 0 compounds bodies ≡ before ++ rest
     pub heads_are : AllZip (IsHead nodes) rest (reverse heads)
     pub table_is : IsLeafTable (text nodes apart) (with_expressions [] (map line_const before)) table
@@ -136,20 +136,20 @@ module _ (compounds : List Bool) (bodies : List Named) (system : Named) where
         lines_are = refl;
         heads_are = walked.heads_are;
         table_is = record {
-          numbers_are = subst (λ k. AllZip (IsNodeOf nodes) k []) (sym numbers) tt;
+          numbers_are = subst (λ k. AllZip (IsNodeAt nodes) k []) (sym numbers) tt;
           expressions_are = ap (map _) expressions;
           operands_are = subst (λ l. AllZip (IsChoiceOf here) [] l) (sym operands) tt;
         };
         candidates_are = walked.stands.candidates_are;
       }
 
-  pub heads_more : (old new : LeafTable) (heads rest : List Head) (head : Head) (candidates : List Candidate) → AddsHeads old heads candidates → heads ≡ rest ++ head ∷ [] → Adds old new head.number (Const head.constant) head.operands → AddsHeads new rest candidates
+  pub heads_more : (old new : LeafTable) (heads rest : List Head) (head : Head) (candidates : List Candidate) → AddsHeads old heads candidates → heads ≡ rest ++ head ∷ [] → AddsNode old new head.number (Const head.constant) head.operands → AddsHeads new rest candidates
   heads_more old new heads rest head candidates so_far popped adds =
       let top = zip_top (IsHead so_far.nodes) so_far.rest heads rest head so_far.heads_are popped in
       let line = top.first in
       let here = text so_far.nodes so_far.apart in
       let leaves = with_expressions [] (map line_const so_far.before) in
-      let number_is : IsNodeOf so_far.nodes head.number (Const head.constant) = top.holds.number_is ∙ ap (λ c. Some (Const c)) (sym top.holds.constant_is) in
+      let number_is : IsNodeAt so_far.nodes head.number (Const head.constant) = top.holds.number_is ∙ ap (λ c. Some (Const c)) (sym top.holds.constant_is) in
       let lines : sequential_lines 0 compounds bodies ≡ so_far.before ++ line ∷ top.others = so_far.lines_are ∙ ap (λ l. so_far.before ++ l) top.is in
       let body : slice_get bodies line.constant ≡ Some line.body = line_body compounds bodies line (subst (Among line) (sym lines) (among_middle line so_far.before top.others)) in
       let body_is : chooser bodies (NamedConstant 0 head.constant) ≡ line.body = ap (λ c. chooser bodies (NamedConstant 0 c)) top.holds.constant_is ∙ read_or bodies line.constant line.body (NamedConstant 0 line.constant) body in
@@ -259,7 +259,7 @@ module _ (compounds : List Bool) (bodies : List Named) (system : Named) where
         ap has_system top.holds.process_is ∙ (plain top.first (subst (Among top.first) (sym written) (among_middle top.first so_far.before top.others))).plain
 
     pub candidates_more : (old new : LeafTable) (candidates rest : List Candidate) (candidate : Candidate) → AddsCandidates old candidates → candidates ≡ rest ++ candidate ∷ []
-        → Adds old new candidate.number (expression_in (named_of candidate.process.now)) candidate.operands → AddsCandidates new rest
+        → AddsNode old new candidate.number (expression_in (named_of candidate.process.now)) candidate.operands → AddsCandidates new rest
     candidates_more old new candidates rest candidate so_far popped adds =
         let top = zip_top (IsCandidate so_far.nodes) so_far.rest candidates rest candidate so_far.candidates_are popped in
         let process = top.first in
@@ -269,7 +269,7 @@ module _ (compounds : List Bool) (bodies : List Named) (system : Named) where
         let leaves = with_expressions [] (listed compounds bodies so_far.before) in
         let written : written_leaves compounds bodies system ≡ so_far.before ++ process ∷ top.others = so_far.written_are ∙ ap (λ l. so_far.before ++ l) top.is in
         let is_plain = plain process (subst (Among process) (sym written) (among_middle process so_far.before top.others)) in
-        let adds_it : Adds old new candidate.number e candidate.operands = subst (λ f. Adds old new candidate.number f candidate.operands) same adds in
+        let adds_it : AddsNode old new candidate.number e candidate.operands = subst (λ f. AddsNode old new candidate.number f candidate.operands) same adds in
         let added = adds_it here leaves top.holds.number_is so_far.table_is (chosen so_far.nodes so_far.apart so_far.before top.others process candidate.operands sizes is_plain written top.holds.operands_are) in
         let consts = map line_const (sequential_lines 0 compounds bodies) in
         let more : with_expression leaves e ≡ with_expressions [] (listed compounds bodies (so_far.before ++ process ∷ [])) =
@@ -296,7 +296,7 @@ module _ (compounds : List Bool) (bodies : List Named) (system : Named) where
   -- a table behind the constants alone has few leaves
   pub heads_few : (table : LeafTable) (heads : List Head) (candidates : List Candidate) → AddsHeads table heads candidates → length bodies ≤ 1024 → length table.numbers.keys ≤ 65535
   heads_few table heads candidates so_far few =
-      let long = zip_long (IsNodeOf so_far.nodes) table.numbers.keys (with_expressions [] (map line_const so_far.before)) so_far.table_is.numbers_are in
+      let long = zip_long (IsNodeAt so_far.nodes) table.numbers.keys (with_expressions [] (map line_const so_far.before)) so_far.table_is.numbers_are in
       let limit = length_limit [] (map line_const so_far.before) in
       let lines = lines_few 0 compounds bodies in
       omega (arith, long, limit, length-map so_far.before line_const, ap length so_far.lines_are, length-append so_far.before so_far.rest, lines, few)
@@ -304,7 +304,7 @@ module _ (compounds : List Bool) (bodies : List Named) (system : Named) where
   -- a table with too many leaves
   pub too_many : (sets : List (List ℕ)) (table : LeafTable) (candidates : List Candidate) → AddsCandidates table candidates → 65535 < length table.numbers.keys → 65535 < length (outline_with sets compounds bodies system).leaves
   too_many sets table candidates so_far many =
-      let long = zip_long (IsNodeOf so_far.nodes) table.numbers.keys (with_expressions [] (listed compounds bodies so_far.before)) so_far.table_is.numbers_are in
+      let long = zip_long (IsNodeAt so_far.nodes) table.numbers.keys (with_expressions [] (listed compounds bodies so_far.before)) so_far.table_is.numbers_are in
       let consts = map line_const (sequential_lines 0 compounds bodies) in
       let spread : listed compounds bodies (written_leaves compounds bodies system) ≡ listed compounds bodies so_far.before ++ map expression_in so_far.rest =
       ap (λ l. consts ++ map expression_in l) so_far.written_are ∙ ap (λ l. consts ++ l) (map-append expression_in so_far.before so_far.rest) ∙ sym (append_assoc consts (map expression_in so_far.before) (map expression_in so_far.rest)) in

@@ -7,10 +7,10 @@ use Rattle.std.proofs.lemmas.Bool.Decides.{nat_tests}
 use Rattle.std.proofs.lemmas.List.Quantifiers.{position-Some}
 use Rattle.std.proofs.lemmas.Option.{slice_get-get_or}
 use Rattle.pepa_model.specs.Expression.{Expression}
-use Rattle.pepa_model.specs.Leaves.{without, each_once, place_of, same_expression}
+use Rattle.pepa_model.specs.Leaves.{without, each_once, position_of, same_expression}
 use Rattle.pepa_model.proofs.DistinctLeaves.{same_expression-Decides}
 use Rattle.pepa_resolver.specs.Named.{Named}
-use Rattle.pepa_resolver.proofs.Findings.{no_element, contains_here, contains_there, contains_cases, contains_map_to}
+use Rattle.node_orders.proofs.Elements.{no_element, contains_here, contains_there, contains_cases, contains_map_to}
 use Rattle.pepa_checks.specs.Outline.{expression_in, outline_with}
 use Rattle.pepa_checks.specs.Activities.{leaf_number}
 use Rattle.pepa_checks.specs.Built.{leaf_processes}
@@ -45,7 +45,7 @@ module _ {X : Type 0} where
         slice_get-get_or xs i x at.0 ∙ ap (λ (z : X). Some z) (sym ((decides x (get_or xs i x)).0 at.1))
 
     -- at its place stands the element
-    pub place_stands : (xs : List X) (x : X) → Contains xs x → slice_get xs (place_of same xs x) ≡ Some x
+    pub place_stands : (xs : List X) (x : X) → Contains xs x → slice_get xs (position_of same xs x) ≡ Some x
     place_stands xs x there = place_by xs x (position (same x) xs) there refl
 
     kept_by : (x y z : X) (kept : List X) (b : Bool) → same x y ≡ b → ¬ (x ≡ z) → (y ≡ z) ⊎ Contains kept z → Contains (cond (not b) (y ∷ kept) kept) z

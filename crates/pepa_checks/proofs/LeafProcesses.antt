@@ -5,8 +5,7 @@ use Rattle.std.proofs.lemmas.List.{map-append}
 use Rattle.pepa_model.specs.Expression.{Expression, Const, ConstShape, LeafShape}
 use Rattle.pepa_model.specs.Leaves.{without, each_once, same_expression, followers, components, components_defined, sequential_constants}
 use Rattle.pepa_resolver.specs.Named.{Named, NamedConstant, NamedPrefix, NamedChoice, NamedCoop, NamedHide}
-use Rattle.pepa_resolver.proofs.Findings.{contains_here, contains_there, contains_cases, contains_map_from}
-use Rattle.pepa_resolver.proofs.Bodies.{contains_from_get}
+use Rattle.node_orders.proofs.Elements.{contains_here, contains_there, contains_cases, contains_map_from, contains_from_get}
 use Rattle.pepa_checks.specs.Outline.{is_compound, expression_in, shape_in, definition_in, definitions_in, outline_with}
 use Rattle.pepa_checks.specs.Activities.{written_followers, written_components, written_in, written_leaves}
 use Rattle.pepa_checks.specs.Built.{constant_names, leaf_processes}

@@ -9,10 +9,10 @@ use Rattle.pepa_rates.specs.declared.rate.Rate.{Rate}
 use Rattle.pepa_rates.specs.declared.rate.Rate.TheVariants.{Active, Passive}
 use Rattle.pepa_model.specs.declared.term.Sequential.{Sequential}
 use Rattle.pepa_model.specs.Expression.{Expression, Const, Prefixed, Chosen, expression_of}
-use Rattle.pepa_model.specs.Leaves.{same_rate, same_expression, place_of}
+use Rattle.pepa_model.specs.Leaves.{same_rate, same_expression, position_of}
 use Rattle.pepa_checks.specs.declared.summand.Summand.{Summand}
 use Rattle.pepa_checks.specs.declared.leaf_table.LeafTable.{LeafTable}
-use Rattle.pepa_checks.specs.LeafTables.{with_expression, Text, IsChoiceOf, IsNodeOf, IsLeafTable, Adds, place_by}
+use Rattle.pepa_checks.specs.LeafTables.{with_expression, Text, IsChoiceOf, IsNodeAt, IsLeafTable, AddsNode, place_by}
 use Rattle.pepa_checks.proofs.ListReads.{one_read}
 
 -- ---- the test of expressions holds where they are the same
@@ -68,30 +68,30 @@ expression_equal e f is = subst (λ g. same_expression e g ≡ true) is (express
 
 -- ---- nodes in place of expressions
 
-module _ (text : Text) (number : ℕ) (e : Expression) (is : IsNodeOf text.nodes number e) where
-  agree : (n : ℕ) (f : Expression) → IsNodeOf text.nodes n f → nat_eq number n ≡ same_expression e f
+module _ (text : Text) (number : ℕ) (e : Expression) (is : IsNodeAt text.nodes number e) where
+  agree : (n : ℕ) (f : Expression) → IsNodeAt text.nodes n f → nat_eq number n ≡ same_expression e f
   agree n f other =
       both_ways (nat_eq number n) (same_expression e f)
       (λ same. expression_equal e f (one_read (slice_get text.nodes n) e f (subst (λ k. slice_get text.nodes k ≡ Some e) ((unsigned_Decides number n).0 same) is) other))
       (λ same. (unsigned_Decides number n).1 (text.apart number n f (is ∙ ap Some (expression_same e f same)) other))
 
-  pub any_agree : (numbers : List ℕ) (leaves : List Expression) → AllZip (IsNodeOf text.nodes) numbers leaves → list_any (nat_eq number) numbers ≡ list_any (same_expression e) leaves
+  pub any_agree : (numbers : List ℕ) (leaves : List Expression) → AllZip (IsNodeAt text.nodes) numbers leaves → list_any (nat_eq number) numbers ≡ list_any (same_expression e) leaves
   any_agree [] [] h = refl
   any_agree [] (f ∷ leaves) h = absurd h
   any_agree (n ∷ numbers) [] h = absurd h
   any_agree (n ∷ numbers) (f ∷ leaves) h = λ i. agree n f h.0 i || any_agree numbers leaves h.1 i
 
-  prefix_agree : (numbers : List ℕ) (leaves : List Expression) → AllZip (IsNodeOf text.nodes) numbers leaves → prefix_len (λ n. not (nat_eq number n)) numbers ≡ prefix_len (λ f. not (same_expression e f)) leaves
+  prefix_agree : (numbers : List ℕ) (leaves : List Expression) → AllZip (IsNodeAt text.nodes) numbers leaves → prefix_len (λ n. not (nat_eq number n)) numbers ≡ prefix_len (λ f. not (same_expression e f)) leaves
   prefix_agree [] [] h = refl
   prefix_agree [] (f ∷ leaves) h = absurd h
   prefix_agree (n ∷ numbers) [] h = absurd h
   prefix_agree (n ∷ numbers) (f ∷ leaves) h = λ i. cond (not (agree n f h.0 i)) (1 + prefix_agree numbers leaves h.1 i) 0
 
-  pub place_agree : (numbers : List ℕ) (leaves : List Expression) → AllZip (IsNodeOf text.nodes) numbers leaves → place_by numbers number ≡ place_of same_expression leaves e
+  pub place_agree : (numbers : List ℕ) (leaves : List Expression) → AllZip (IsNodeAt text.nodes) numbers leaves → place_by numbers number ≡ position_of same_expression leaves e
   place_agree numbers leaves h =
       λ i. unwrap_or (cond (nat_lt (prefix_agree numbers leaves h i) (as_long numbers leaves h i)) (Some (prefix_agree numbers leaves h i)) None) 0
     where
-      as_long : (ns : List ℕ) (fs : List Expression) → AllZip (IsNodeOf text.nodes) ns fs → length ns ≡ length fs
+      as_long : (ns : List ℕ) (fs : List Expression) → AllZip (IsNodeAt text.nodes) ns fs → length ns ≡ length fs
       as_long [] [] g = refl
       as_long [] (f ∷ fs) g = absurd g
       as_long (n ∷ ns) [] g = absurd g
@@ -119,7 +119,7 @@ pub adds_new : (old new : LeafTable) (number : ℕ) (expression : Sequential) (o
     → new.numbers.keys ≡ insert_key nat_eq old.numbers.keys number
     → new.expressions ≡ old.expressions ++ expression ∷ []
     → new.operands ≡ old.operands ++ operands ∷ []
-    → Adds old new number (expression_of expression) operands
+    → AddsNode old new number (expression_of expression) operands
 adds_new old new number expression operands added told is_new keys longer more = λ text leaves is table chosen.
     let e = expression_of expression in
     let fresh : list_any (nat_eq number) old.numbers.keys ≡ false = not_true (list_any (nat_eq number) old.numbers.keys) (sym told ∙ is_new) in
@@ -127,7 +127,7 @@ adds_new old new number expression operands added told is_new keys longer more =
     let keys_are : new.numbers.keys ≡ old.numbers.keys ++ number ∷ [] = keys ∙ ap (λ b. if b then old.numbers.keys else old.numbers.keys ++ number ∷ []) fresh in
     let leaves_are : with_expression leaves e ≡ leaves ++ e ∷ [] = ap (λ b. if b then leaves else leaves ++ e ∷ []) unlisted in
     subst (λ l. IsLeafTable text l new) (sym leaves_are) (record {
-      numbers_are = subst (λ k. AllZip (IsNodeOf text.nodes) k (leaves ++ e ∷ [])) (sym keys_are) (zip_push (IsNodeOf text.nodes) old.numbers.keys leaves number e table.numbers_are is);
+      numbers_are = subst (λ k. AllZip (IsNodeAt text.nodes) k (leaves ++ e ∷ [])) (sym keys_are) (zip_push (IsNodeAt text.nodes) old.numbers.keys leaves number e table.numbers_are is);
       expressions_are = ap (map expression_of) longer ∙ map-append expression_of old.expressions (expression ∷ []) ∙ ap (λ l. l ++ e ∷ []) table.expressions_are;
       operands_are = subst (λ l. AllZip (IsChoiceOf text) (leaves ++ e ∷ []) l) (sym more) (zip_push (IsChoiceOf text) leaves old.operands e operands table.operands_are (chosen unlisted));
     })
@@ -137,12 +137,12 @@ pub adds_old : (old new : LeafTable) (number : ℕ) (e : Expression) (operands :
     → new.numbers.keys ≡ old.numbers.keys
     → new.expressions ≡ old.expressions
     → new.operands ≡ old.operands
-    → Adds old new number e operands
+    → AddsNode old new number e operands
 adds_old old new number e operands there keys same kept = λ text leaves is table chosen.
     let listed : list_any (same_expression e) leaves ≡ true = sym (any_agree text number e is old.numbers.keys leaves table.numbers_are) ∙ there in
     let leaves_are : with_expression leaves e ≡ leaves = ap (λ b. if b then leaves else leaves ++ e ∷ []) listed in
     subst (λ l. IsLeafTable text l new) (sym leaves_are) (record {
-      numbers_are = subst (λ k. AllZip (IsNodeOf text.nodes) k leaves) (sym keys) table.numbers_are;
+      numbers_are = subst (λ k. AllZip (IsNodeAt text.nodes) k leaves) (sym keys) table.numbers_are;
       expressions_are = ap (map expression_of) same ∙ table.expressions_are;
       operands_are = subst (λ l. AllZip (IsChoiceOf text) leaves l) (sym kept) table.operands_are;
     })
@@ -153,7 +153,7 @@ pub adds_again : (old new : LeafTable) (number : ℕ) (e : Expression) (operands
     → new.numbers.keys ≡ insert_key nat_eq old.numbers.keys number
     → new.expressions ≡ old.expressions
     → new.operands ≡ old.operands
-    → Adds old new number e operands
+    → AddsNode old new number e operands
 adds_again old new number e operands added told no_more keys same kept =
     let there : list_any (nat_eq number) old.numbers.keys ≡ true = not_false (list_any (nat_eq number) old.numbers.keys) (sym told ∙ no_more) in
     adds_old old new number e operands there (keys ∙ ap (λ b. if b then old.numbers.keys else old.numbers.keys ++ number ∷ []) there) same kept

@@ -11,7 +11,6 @@ pub mod LeafNumbers
 pub mod TextHeights
 pub mod OneTree
 pub mod PlainProcesses
-pub mod AlongOrders
 pub mod Openings
 pub mod Expansions
 pub mod BuiltFiles
@@ -43,3 +42,8 @@ pub mod WrittenRates
 pub mod TextNames
 pub mod WordIndices
 pub mod SpelledModels
+pub mod Bodies
+pub mod Sequentials
+pub mod EdgeLists
+pub mod Structured
+pub mod Stops

@@ -6,23 +6,22 @@ use Rattle.std.proofs.lemmas.Slice.Eq.{bytes_eq-Decides}
 use Rattle.pepa_lexer.specs.Bytes.{is_digit, begins}
 use Rattle.pepa_lexer.specs.Signs.{sign_bytes}
 use Rattle.pepa_lexer.specs.TokenLists.{IsTokens}
-use Rattle.pepa_lexer.specs.TokenTexts.{IsTextOf, AreInOrder}
+use Rattle.pepa_lexer.specs.TokenTexts.{IsTokenText, AreInOrder}
 use Rattle.pepa_lexer.specs.declared.kinds.Token.{Token}
 use Rattle.pepa_lexer.specs.declared.kinds.Kind.{Kind}
 use Rattle.pepa_lexer.specs.declared.kinds.Kind.TheVariants as kinds
 use Rattle.pepa_lexer.specs.declared.kinds.Sign.{Sign}
 use Rattle.pepa_lexer.specs.declared.kinds.Sign.TheVariants.{Equals, Semicolon, Opening, Closing, Comma, Dot, Plus, Minus, Star, Slash, Less, Greater, LessOrEqual, GreaterOrEqual, EqualTo, NotEqualTo, Not, And, Or, Bar, OpeningBrace, ClosingBrace, OpeningBracket, ClosingBracket, Colon, DoubleColon, Question}
 use Rattle.pepa_lexer.proofs.TextsInOrder.{texts_in_order}
-use Rattle.pepa_reader.specs.Terminals.{text_of}
+use Rattle.token_grammar.specs.Terminals.{text_of, bytes_of, name_at}
 use Rattle.pepa_model.specs.Derivation.{Among}
 use Rattle.pepa_model.specs.Leaves.{without}
 use Rattle.pepa_model.specs.PepaModel.{AreDistinct}
 use Rattle.pepa_model.proofs.DistinctLeaves.{once_distinct}
-use Rattle.pepa_resolver.specs.Parts.{bytes_of, name_at}
 use Rattle.pepa_resolver.specs.Faults.{IsRepeated}
 use Rattle.pepa_resolver.specs.NamesAnswers.{IsTau}
 use Rattle.pepa_resolver.specs.Numbers.{first_places}
-use Rattle.pepa_resolver.proofs.Findings.{contains_here, contains_there, contains_cases}
+use Rattle.node_orders.proofs.Elements.{contains_here, contains_there, contains_cases}
 use Rattle.pepa_resolver.proofs.Taus.{tau_by_bytes}
 
 -- ---- lists
@@ -92,11 +91,11 @@ distinct_lines name (at ∷ ats) apart = (
 
 -- ---- the name `tau` is the word `tau`
 
-text_at : (input : List ℕ) (low : ℕ) (tokens : List Token) (i : ℕ) (token : Token) → AreInOrder input low tokens → slice_get tokens i ≡ Some token → IsTextOf token.kind (text_of input token)
+text_at : (input : List ℕ) (low : ℕ) (tokens : List Token) (i : ℕ) (token : Token) → AreInOrder input low tokens → slice_get tokens i ≡ Some token → IsTokenText token.kind (text_of input token)
 text_at input low [] i token order is = absurd cc
 text_at input low (first ∷ tokens) zero token order is =
     let same : first ≡ token = cc in
-    subst (λ (t : Token). IsTextOf t.kind (text_of input t)) same order.2
+    subst (λ (t : Token). IsTokenText t.kind (text_of input t)) same order.2
 text_at input low (first ∷ tokens) (suc i) token order is = text_at input first.to tokens i token order.4 is
 
 no_sign : (sign : Sign) → ¬ (codes "tau" ≡ sign_bytes sign)
@@ -132,7 +131,7 @@ begins_front : (before behind : List ℕ) → begins is_digit before ≡ true �
 begins_front [] behind h = absurd cc
 begins_front (byte ∷ before) behind h = h
 
-small_kind : (kind : Kind) → IsTextOf kind (codes "tau") → kind ≡ kinds.Small
+small_kind : (kind : Kind) → IsTokenText kind (codes "tau") → kind ≡ kinds.Small
 small_kind kinds.Small h = refl
 small_kind kinds.Capital h = let e : false ≡ true = h.1 in absurd cc
 small_kind (kinds.Number digits scale) (inl h) = let e : false ≡ true = h.1.0 in absurd cc
@@ -150,6 +149,6 @@ tau_stands input tokens i are named = by (slice_get tokens i) refl named
     by None e h = absurd cc
     by (Some token) e h =
         let text = text_at input 0 tokens i token (texts_in_order input tokens are) e in
-        let small : token.kind ≡ kinds.Small = small_kind token.kind (subst (IsTextOf token.kind) h text) in
+        let small : token.kind ≡ kinds.Small = small_kind token.kind (subst (IsTokenText token.kind) h text) in
         let test : true ≡ pointwise nat_eq (text_of input token) (codes "tau") = sym ((bytes_decides (text_of input token) (codes "tau")).1 h) in
         (tau_by_bytes input tokens i token true e small test).0 refl

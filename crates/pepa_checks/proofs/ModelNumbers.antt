@@ -10,10 +10,10 @@ use Rattle.pepa_model.specs.Leaves.{each_once, actions_in, actions_of_shape, act
 use Rattle.pepa_model.specs.PepaModel.{AreByFirstPlaces}
 use Rattle.pepa_reader.specs.Trees.{ProcessNode, ConstantAt, PrefixAt, ChoiceOf, CoopAt, HideOf, ProcessLineNode, FileNode}
 use Rattle.pepa_resolver.specs.Parts.{processes_of}
-use Rattle.pepa_resolver.specs.Named.{Named, NamedConstant, NamedPrefix, NamedChoice, NamedCoop, NamedHide, Naming, named, set_of}
-use Rattle.pepa_resolver.specs.Structure.{has_system}
+use Rattle.pepa_resolver.specs.Named.{Named, NamedConstant, NamedPrefix, NamedChoice, NamedCoop, NamedHide, Naming, named, ascending_set}
+use Rattle.pepa_checks.specs.Structure.{has_system}
 use Rattle.pepa_resolver.specs.Numbers.{words_in, place_in, actions_of, actions_named, named_bodies, named_system}
-use Rattle.pepa_resolver.proofs.Findings.{contains_here, contains_there}
+use Rattle.node_orders.proofs.Elements.{contains_here, contains_there}
 use Rattle.pepa_resolver.proofs.NumberMeanings.{place_stands, first_there}
 use Rattle.pepa_checks.specs.Outline.{is_compound, expression_in, sets_written, sets_of, shape_in, definition_in, definitions_in}
 use Rattle.pepa_checks.specs.Sequences.{HasSequentialParts, AreBodies}
@@ -43,14 +43,14 @@ module _ (naming : Naming) where
   process_grows (CoopAt at left right set) =
       let l = actions_named (named naming left) in
       let r = actions_named (named naming right) in
-      let s = set_of (map naming.action set) in
+      let s = ascending_set (map naming.action set) in
       mapped naming.action (words_in left) (set ++ words_in right) (l ++ (s ++ r))
       (grows_both (map naming.action (words_in left)) l (map naming.action (set ++ words_in right)) (s ++ r) (process_grows left)
       (mapped naming.action set (words_in right) (s ++ r)
       (grows_both (map naming.action set) s (map naming.action (words_in right)) r (λ from to g. set_grows from to (map naming.action set) g) (process_grows right))))
   process_grows (HideOf inner set) =
       let i = actions_named (named naming inner) in
-      let s = set_of (map naming.action set) in
+      let s = ascending_set (map naming.action set) in
       mapped naming.action (words_in inner) set (i ++ s)
       (grows_both (map naming.action (words_in inner)) i (map naming.action set) s (process_grows inner) (λ from to g. set_grows from to (map naming.action set) g))
 

@@ -6,13 +6,13 @@ use Rattle.std.proofs.lemmas.List.Elements.{Contains-append_left, Contains-appen
 use Rattle.pepa_lexer.specs.declared.kinds.Token.{Token}
 use Rattle.pepa_lexer.specs.TokenLists.{IsTokens}
 use Rattle.pepa_reader.specs.Trees.{ProcessNode, ConstantAt, PrefixAt, ChoiceOf, CoopAt, HideOf, ProcessLineNode, FileNode}
-use Rattle.pepa_resolver.specs.Parts.{name_at, set_words_in, processes_of}
+use Rattle.token_grammar.specs.Terminals.{name_at}
+use Rattle.pepa_resolver.specs.Parts.{set_words_in, processes_of}
 use Rattle.pepa_resolver.specs.Faults.{HasNone, TauAt}
 use Rattle.pepa_resolver.specs.NamesAnswers.{IsTau}
-use Rattle.pepa_resolver.specs.Named.{Naming, named, set_of}
+use Rattle.pepa_resolver.specs.Named.{Naming, named, ascending_set}
 use Rattle.pepa_resolver.specs.Numbers.{words_in, first_places, place_in, actions_of, named_bodies, named_system}
-use Rattle.pepa_resolver.proofs.Findings.{no_element, contains_here, contains_there, contains_cases, contains_map_from}
-use Rattle.pepa_resolver.proofs.Bodies.{contains_from_get}
+use Rattle.node_orders.proofs.Elements.{no_element, contains_here, contains_there, contains_cases, contains_map_from, contains_from_get}
 use Rattle.pepa_resolver.proofs.NumberNames.{place_within}
 use Rattle.pepa_resolver.proofs.NumberMeanings.{action_stands}
 use Rattle.pepa_resolver.proofs.Ascending.{set_ascends, set_no_more, increasing_from}
@@ -47,7 +47,7 @@ words_of_sets (HideOf inner set) i h =
 -- a set of a process is that of some of its words
 record IsSetOf (naming : Naming) (process : ProcessNode) (set : List ℕ) : Type 0 where
   words : List ℕ
-  is_set : set ≡ set_of (map naming.action words)
+  is_set : set ≡ ascending_set (map naming.action words)
   among : (i : ℕ) → Contains words i → Contains (set_words_in process) i
 
 module _ (naming : Naming) where
@@ -60,17 +60,17 @@ module _ (naming : Naming) where
         | inr k ↦ let found = set_of_words right set k in record { words = found.words; is_set = found.is_set; among = λ i m. Contains-append_right (set_words_in left) (set_words_in right) i (found.among i m) }
       ]
   set_of_words (CoopAt at left right words) set h =
-      elim (Contains-append_cases (sets_written (named naming left)) (set_of (map naming.action words) ∷ sets_written (named naming right)) set h) [
+      elim (Contains-append_cases (sets_written (named naming left)) (ascending_set (map naming.action words) ∷ sets_written (named naming right)) set h) [
         | inl k ↦ let found = set_of_words left set k in record { words = found.words; is_set = found.is_set; among = λ i m. Contains-append_left (set_words_in left) (words ++ set_words_in right) i (found.among i m) }
-        | inr k ↦ elim (contains_cases (set_of (map naming.action words)) (sets_written (named naming right)) set k) [
+        | inr k ↦ elim (contains_cases (ascending_set (map naming.action words)) (sets_written (named naming right)) set k) [
           | inl e ↦ record { words = words; is_set = sym e; among = λ i m. Contains-append_right (set_words_in left) (words ++ set_words_in right) i (Contains-append_left words (set_words_in right) i m) }
           | inr m ↦ let found = set_of_words right set m in record { words = found.words; is_set = found.is_set; among = λ i n. Contains-append_right (set_words_in left) (words ++ set_words_in right) i (Contains-append_right words (set_words_in right) i (found.among i n)) }
         ]
       ]
   set_of_words (HideOf inner words) set h =
-      elim (Contains-append_cases (sets_written (named naming inner)) (set_of (map naming.action words) ∷ []) set h) [
+      elim (Contains-append_cases (sets_written (named naming inner)) (ascending_set (map naming.action words) ∷ []) set h) [
         | inl k ↦ let found = set_of_words inner set k in record { words = found.words; is_set = found.is_set; among = λ i m. Contains-append_left (set_words_in inner) words i (found.among i m) }
-        | inr k ↦ elim (contains_cases (set_of (map naming.action words)) [] set k) [
+        | inr k ↦ elim (contains_cases (ascending_set (map naming.action words)) [] set k) [
           | inl e ↦ record { words = words; is_set = sym e; among = λ i m. Contains-append_right (set_words_in inner) words i m }
           | inr m ↦ absurd (no_element set m)
         ]
@@ -139,7 +139,7 @@ module _ (input : List ℕ) (tokens : List Token) (file : FileNode) (naming : Na
       let number_of : (a : ℕ) → Contains set a → (i : ℕ) × Contains words i × (naming.action i ≡ a) =
       λ a among. contains_map_from naming.action words a (set_no_more (map naming.action words) a (subst (λ (s : List ℕ). Contains s a) found.is_set.is_set among)) in
       record {
-        ascends = subst IsStrictlyIncreasing (sym found.is_set.is_set) (increasing_from (set_of (map naming.action words)) (set_ascends (map naming.action words)));
+        ascends = subst IsStrictlyIncreasing (sym found.is_set.is_set) (increasing_from (ascending_set (map naming.action words)) (set_ascends (map naming.action words)));
         no_tau = all_from (λ a. 0 < a) set (λ a among. let n = number_of a among in subst (λ (x : ℕ). 0 < x) n.2 (number_positive found.process n.0 found.inside (found.is_set.among n.0 n.1)));
         known = all_from (λ a. a < length names) set (λ a among. let n = number_of a among in subst (λ (x : ℕ). x < length names) n.2 (number_known n.0));
       }

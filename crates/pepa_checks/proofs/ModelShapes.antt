@@ -9,10 +9,10 @@ use Rattle.pepa_model.specs.PepaModel.{PepaModel, IsNamed, IsShapeOf, IsNoLeaf}
 use Rattle.pepa_model.specs.declared.term.Activity.{Activity}
 use Rattle.pepa_resolver.specs.Named.{Named, NamedConstant, NamedPrefix, NamedChoice, NamedCoop, NamedHide, constants_named}
 use Rattle.pepa_resolver.specs.Numbers.{place_in, actions_named, IsInRange}
-use Rattle.pepa_resolver.specs.Structure.{has_system, IsCompoundBy}
-use Rattle.pepa_resolver.specs.Structure as structure
-use Rattle.pepa_resolver.specs.Graphs.{AreBelow, IsTableOf}
-use Rattle.pepa_resolver.proofs.Findings.{no_element, contains_here, contains_there}
+use Rattle.pepa_checks.specs.Structure.{has_system, IsCompoundBy}
+use Rattle.pepa_checks.specs.Structure as structure
+use Rattle.node_orders.specs.Graphs.{AreBelow, IsTableOf}
+use Rattle.node_orders.proofs.Elements.{no_element, contains_here, contains_there}
 use Rattle.pepa_resolver.proofs.NumberMeanings.{place_stands, first_there}
 use Rattle.pepa_checks.specs.Outline.{is_compound, expression_in, sets_written, sets_of, shape_in, definition_in, definitions_in, Outline, outline_with}
 use Rattle.pepa_checks.specs.Activities.{leaf_number}
@@ -170,10 +170,10 @@ module _ (constants actions : List (List ℕ)) (activities : List (List Activity
 
   -- ---- a compound constant's system is no leaf
 
-  pub no_leaf : IsTableOf (structure.IsCompound bodies) compounds → (c : ℕ) (body : Named) → slice_get compounds c ≡ Some true → slice_get bodies c ≡ Some body → HasSequentialParts body → IsNoLeaf (shape_in compounds outline.sets body)
+  pub no_leaf : IsTableOf (structure.IsCompoundConstant bodies) compounds → (c : ℕ) (body : Named) → slice_get compounds c ≡ Some true → slice_get bodies c ≡ Some body → HasSequentialParts body → IsNoLeaf (shape_in compounds outline.sets body)
   no_leaf table c body flag is parts = by body is parts (table.sound c flag)
     where
-      by : (body : Named) → slice_get bodies c ≡ Some body → HasSequentialParts body → structure.IsCompound bodies c → IsNoLeaf (shape_in compounds outline.sets body)
+      by : (body : Named) → slice_get bodies c ≡ Some body → HasSequentialParts body → structure.IsCompoundConstant bodies c → IsNoLeaf (shape_in compounds outline.sets body)
       by (NamedConstant at d) is parts (zero, h) e same = let k : ◌≡◌ {A = Named} h.0 (NamedConstant at d) = cc in let f : false ≡ true = sym (ap has_system k) ∙ h.2 in cc
       by (NamedConstant at d) is parts (suc n, h) e same =
           let next : h.1 ≡ d = cc in

@@ -12,7 +12,7 @@ use Rattle.pepa_checks.specs.declared.nodes.Node.{Node}
 use Rattle.pepa_checks.specs.declared.nodes.Node.TheVariants.{Constant, Activity, Choice}
 use Rattle.pepa_checks.specs.NodeTests.{same_node}
 use Rattle.pepa_checks.specs.NodeLaws.{node_same, node_decides}
-use Rattle.pepa_checks.specs.NodeTables.{rate_by, built, built_on, expressions_by, Builds, AreNodes, IsNodeTable, Grows, Has}
+use Rattle.pepa_checks.specs.NodeTables.{rate_by, built, built_on, expressions_by, Builds, AreNodes, IsNodeTable, ExtendsNodes, Has}
 use Rattle.pepa_checks.proofs.ListReads.{true_or_false, read_more, read_last, read_cases, read_within, read_or, read_there, any_read}
 
 -- ---- what a list with more in it still builds
@@ -126,10 +126,10 @@ module _ (nodes : List Node) (es : List Expression) (node : Node) (e : Expressio
 
 -- ---- the table behind it
 
-pub grows_itself : (es : List Expression) → Grows es es
+pub grows_itself : (es : List Expression) → ExtendsNodes es es
 grows_itself es = ([], sym (append-nil es))
 
-pub grows_again : (es fs gs : List Expression) → Grows es fs → Grows fs gs → Grows es gs
+pub grows_again : (es fs gs : List Expression) → ExtendsNodes es fs → ExtendsNodes fs gs → ExtendsNodes es gs
 grows_again es fs gs g h = (g.0 ++ h.0, h.1 ∙ ap (λ l. l ++ h.0) g.1 ∙ append_assoc es g.0 h.0)
 
 new_node : (nodes : List Node) (node : Node) (e : Expression) (number : ℕ) → IsNodeTable nodes → Builds (expressions_by nodes) node e → list_any (same_node node) nodes ≡ false → slice_get (nodes ++ node ∷ []) number ≡ Some node → Has nodes (nodes ++ node ∷ []) number e

@@ -4,19 +4,19 @@ use Rattle.std.specs.List.{AllZip}
 use Rattle.pepa_lexer.specs.declared.kinds.Token.{Token}
 use Rattle.pepa_lexer.proofs.OneAnswer.{one_list}
 use Rattle.pepa_reader.specs.Grammar.{File, file_spelled}
-use Rattle.pepa_reader.specs.Terminals.{terminals}
+use Rattle.token_grammar.specs.Terminals.{terminals}
 use Rattle.pepa_reader.specs.Trees.{FileNode, file_tree}
 use Rattle.pepa_reader.proofs.ItemLaws.{one_file}
 use Rattle.pepa_model.specs.Expression.{Expression, Definition, Shape}
 use Rattle.pepa_model.specs.PepaModel.{PepaModel}
 use Rattle.pepa_model.specs.declared.term.Activity.{Activity}
 use Rattle.pepa_resolver.specs.Named.{Named}
-use Rattle.pepa_resolver.specs.Structure.{IsCompound}
-use Rattle.pepa_resolver.specs.Graphs.{IsTableOf}
+use Rattle.pepa_checks.specs.Structure.{IsCompoundConstant}
+use Rattle.node_orders.specs.Graphs.{IsTableOf}
 use Rattle.pepa_resolver.proofs.OneNumbering.{one_table, one_list_of_bodies, one_named_system}
 use Rattle.pepa_checks.specs.Outline.{Outline, outline_of}
-use Rattle.pepa_checks.specs.Activities.{HasActivities, activities_in}
-use Rattle.pepa_checks.specs.CheckedFiles.{Sound, outline, IsModelOf, IsTextOf, Reads}
+use Rattle.pepa_checks.specs.Activities.{AreActivitiesOf, activities_in}
+use Rattle.pepa_checks.specs.CheckedFiles.{Sound, outline, IsModelOf, IsTextOf, IsShortTextOf}
 use Rattle.pepa_checks.proofs.OneTree.{one_opening}
 
 -- ---- a file without a fault of its structure
@@ -30,8 +30,8 @@ module _ (input : List ℕ) (tokens : List Token) (file : FileNode) (s t : Sound
 
   pub same_compounds : s.compounds ≡ t.compounds
   same_compounds =
-      one_table (IsCompound s.bodies) s.compounds t.compounds (s.one_each ∙ ap (λ (l : List Named). length l) same_bodies ∙ sym t.one_each) s.table
-      (subst (λ (bs : List Named). IsTableOf (IsCompound bs) t.compounds) (sym same_bodies) t.table)
+      one_table (IsCompoundConstant s.bodies) s.compounds t.compounds (s.one_each ∙ ap (λ (l : List Named). length l) same_bodies ∙ sym t.one_each) s.table
+      (subst (λ (bs : List Named). IsTableOf (IsCompoundConstant bs) t.compounds) (sym same_bodies) t.table)
 
   pub same_outline : outline s ≡ outline t
   same_outline =
@@ -41,7 +41,7 @@ module _ (input : List ℕ) (tokens : List Token) (file : FileNode) (s t : Sound
 
 -- ---- models
 
-one_activities : (o : Outline) (leaves : List Expression) (xs ys : List (List Activity)) → AllZip (HasActivities o) leaves xs → AllZip (HasActivities o) leaves ys → xs ≡ ys
+one_activities : (o : Outline) (leaves : List Expression) (xs ys : List (List Activity)) → AllZip (AreActivitiesOf o) leaves xs → AllZip (AreActivitiesOf o) leaves ys → xs ≡ ys
 one_activities o [] [] [] h k = refl
 one_activities o [] (x ∷ xs) ys h k = absurd h
 one_activities o [] [] (y ∷ ys) h k = absurd k
@@ -69,9 +69,9 @@ pub one_file_model : (input : List ℕ) (tokens : List Token) (file : FileNode) 
 one_file_model input tokens file m n a b =
     let same = same_outline input tokens file a.sound b.sound in
     let leaves : m.leaves ≡ n.leaves = a.leaves_are ∙ ap (λ (o : Outline). o.leaves) same ∙ sym b.leaves_are in
-    let others : AllZip (HasActivities (outline a.sound)) m.leaves n.activities =
-    subst (λ (l : List Expression). AllZip (HasActivities (outline a.sound)) l n.activities) (sym leaves)
-    (subst (λ (o : Outline). AllZip (HasActivities o) n.leaves n.activities) (sym same) b.activities_are) in
+    let others : AllZip (AreActivitiesOf (outline a.sound)) m.leaves n.activities =
+    subst (λ (l : List Expression). AllZip (AreActivitiesOf (outline a.sound)) l n.activities) (sym leaves)
+    (subst (λ (o : Outline). AllZip (AreActivitiesOf o) n.leaves n.activities) (sym same) b.activities_are) in
     same_parts m n
     (a.constants_are ∙ sym b.constants_are) (a.actions_are ∙ sym b.actions_are)
     (a.bodies_are ∙ ap (λ (o : Outline). o.definitions) same ∙ sym b.bodies_are)
@@ -91,5 +91,5 @@ one_text input m n a b =
     subst (λ (f : File). IsModelOf input a.tokens (file_tree f) n) (sym file) (subst (λ (l : List Token). IsModelOf input l (file_tree b.file) n) (sym tokens) b.is_model) in
     one_file_model input a.tokens (file_tree a.file) m n a.is_model model
 
-pub one_model : (input : List ℕ) (m n : PepaModel) → Reads input m → Reads input n → m ≡ n
+pub one_model : (input : List ℕ) (m n : PepaModel) → IsShortTextOf input m → IsShortTextOf input n → m ≡ n
 one_model input m n a b = one_text input m n a.text b.text

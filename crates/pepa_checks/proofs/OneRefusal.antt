@@ -1,29 +1,134 @@
 -- A file is refused for at most one cause, at one index, and then it has no model.
 use Rattle.std.proofs.Common.{◌≡◌, ℕ, ◌<◌, inl, inr, Bool, List, [], ◌∷◌, ◌++◌, slice_get, refl, sym, ◌∙◌, ap, subst, arith}
 use Rattle.std.proofs.lemmas.Option.{same_Some}
+use Rattle.pepa_rates.specs.declared.rate.Rate.{Rate}
 use Rattle.pepa_lexer.specs.declared.kinds.Token.{Token}
 use Rattle.pepa_reader.specs.declared.trees.FileTree.{FileTree}
-use Rattle.pepa_reader.specs.Terminals.{terminals}
+use Rattle.token_grammar.specs.Terminals.{terminals, name_at}
 use Rattle.pepa_reader.specs.Trees.{FileNode, file_node_of}
 use Rattle.pepa_reader.specs.FileAnswers.{IsFileTree}
 use Rattle.pepa_model.specs.Expression.{Expression, Const, Prefixed, Chosen}
 use Rattle.pepa_model.specs.Derivation.{Among}
 use Rattle.pepa_model.specs.Opened.{Opened}
 use Rattle.pepa_model.specs.PepaModel.{PepaModel, IsMixedAt}
-use Rattle.pepa_resolver.specs.declared.cause.CheckCause.{CheckCause}
-use Rattle.pepa_resolver.specs.declared.cause.CheckCause.TheVariants.{TooMany, MixedChoice}
-use Rattle.pepa_resolver.specs.Parts.{name_at}
+use Rattle.pepa_checks.specs.declared.cause.CheckCause.{CheckCause}
+use Rattle.pepa_checks.specs.declared.cause.CheckCause.TheVariants.{Twice, UnknownName, TauInSet, BadRate, NotSequential, ModelCycle, Unguarded, TooMany, MixedChoice}
+use Rattle.node_orders.specs.Cycles.{IsFirstCycle, HasNoCycle}
+use Rattle.node_orders.proofs.AlongOrders.{one_first}
+use Rattle.pepa_resolver.specs.declared.refusal.ResolveCause.{ResolveCause}
+use Rattle.pepa_resolver.specs.declared.refusal.ResolveCause.TheVariants as resolver
+use Rattle.pepa_resolver.specs.Faults.{HasNone, IsLeast}
+use Rattle.pepa_resolver.specs.NamesAnswers.{IsNamesRefusedFor}
+use Rattle.pepa_checks.specs.Structure.{NotSequentialAt, CompoundEdge, UnguardedEdge}
+use Rattle.pepa_checks.specs.StructureAnswers.{IsStructured}
 use Rattle.pepa_resolver.specs.Named.{Named, first_at}
 use Rattle.pepa_resolver.specs.Numbers.{actions_of}
-use Rattle.pepa_resolver.specs.StructuredFiles.{IsStoppedFor}
-use Rattle.pepa_resolver.proofs.Judges.{Judges, For, for_one, Behind, behind, any, fewer}
-use Rattle.pepa_resolver.proofs.OneRefusal.{IsFine, file_judges}
+use Rattle.pepa_resolver.specs.ResolvedFiles.{IsNumberedFile}
+use Rattle.pepa_checks.specs.StructuredFiles.{told_cause_of, IsLineAt, IsMisbuilt, IsMisbuiltFile, IsStoppedFor}
+use Rattle.pepa_resolver.proofs.Judges.{Judges, For, for_one, Behind, behind, any, fewer, told_by}
+use Rattle.pepa_resolver.proofs.OneRefusal.{least_judges, Numbering, file_judges}
+use Rattle.pepa_resolver.proofs.OneNumbering.{one_list_of_bodies, one_named_system}
 use Rattle.pepa_checks.specs.Outline.{Outline, outline_of, expression_in}
 use Rattle.pepa_checks.specs.Activities.{activities_in, sites, written_leaves, IsFirstWritten, HasMixed, HasNoMixed, IsMixedLeaf, IsFirstMixed}
 use Rattle.pepa_checks.specs.Limits.{PassesLimit}
 use Rattle.pepa_checks.specs.CheckedFiles.{Sound, IsRefusedFor, IsModelOf}
 use Rattle.pepa_checks.proofs.OneTree.{one_opening}
 use Rattle.pepa_checks.proofs.OneModel.{same_bodies, same_system, same_compounds}
+
+-- ---- up to the structure
+
+-- the line of the first constant that reaches itself
+abbrev CycleAt : FileNode → (ℕ → ℕ → Type 0) → ℕ → Type 0
+CycleAt file Edge i = (c : ℕ) × IsFirstCycle Edge c × IsLineAt file c i
+
+cycle_judges : (file : FileNode) (cause : CheckCause) (Edge : ℕ → ℕ → Type 0) → Judges (For cause (CycleAt file Edge)) (HasNoCycle Edge)
+cycle_judges file cause Edge =
+    for_one cause (CycleAt file Edge) (HasNoCycle Edge)
+    (λ i j h k. one i j h k)
+    (λ i h none. none h.0 h.1.cycle)
+  where
+    one : (i j : ℕ) → CycleAt file Edge i → CycleAt file Edge j → i ≡ j
+    one i j (c, h, at) (d, k, there) =
+        let same = one_first Edge c d h k in
+        same_Some i j (sym (subst (λ n. IsLineAt file n i) same at) ∙ there)
+
+-- ---- the structure
+
+module _ (file : FileNode) (bodies : List Named) (system : Named) where
+  abbrev Sequential : CheckCause → ℕ → Type 0
+  Sequential = For NotSequential (IsLeast (NotSequentialAt bodies system))
+
+  abbrev Compound : CheckCause → ℕ → Type 0
+  Compound = For ModelCycle (CycleAt file (CompoundEdge bodies))
+
+  abbrev Guarded : CheckCause → ℕ → Type 0
+  Guarded = For Unguarded (CycleAt file (UnguardedEdge bodies))
+
+  abbrev BuiltInTurn : CheckCause → ℕ → Type 0
+  BuiltInTurn = Behind Sequential (HasNone (NotSequentialAt bodies system)) (Behind Compound (HasNoCycle (CompoundEdge bodies)) Guarded)
+
+  built_in_turn : (cause : CheckCause) (i : ℕ) → IsMisbuilt file bodies system cause i → BuiltInTurn cause i
+  built_in_turn NotSequential i h = inl (refl, h)
+  built_in_turn ModelCycle i h = inr (h.0, inl (refl, h.1))
+  built_in_turn Unguarded i h = inr (h.0, inr (h.1, (refl, h.2)))
+  built_in_turn _ i h = elim h [ ]
+
+  structure_judges : Judges (IsMisbuilt file bodies system) (IsStructured bodies system)
+  structure_judges =
+      fewer BuiltInTurn (IsMisbuilt file bodies system) (HasNone (NotSequentialAt bodies system) × (HasNoCycle (CompoundEdge bodies) × HasNoCycle (UnguardedEdge bodies))) (IsStructured bodies system)
+      built_in_turn (λ fine. (fine.sequential, (fine.compound, fine.guarded)))
+      (behind Sequential (Behind Compound (HasNoCycle (CompoundEdge bodies)) Guarded) (HasNone (NotSequentialAt bodies system)) (HasNoCycle (CompoundEdge bodies) × HasNoCycle (UnguardedEdge bodies))
+      (least_judges NotSequential (NotSequentialAt bodies system))
+      (behind Compound Guarded (HasNoCycle (CompoundEdge bodies)) (HasNoCycle (UnguardedEdge bodies))
+      (cycle_judges file ModelCycle (CompoundEdge bodies))
+      (cycle_judges file Unguarded (UnguardedEdge bodies))))
+
+module _ (input : List ℕ) (tokens : List Token) (file : FileNode) where
+  abbrev Built : CheckCause → ℕ → Type 0
+  Built cause i = (x : Numbering input tokens file) × IsMisbuilt file x.bodies x.system cause i
+
+  -- the numbers are there, and the structure is fine
+  abbrev pub IsFine : Type 0
+  IsFine = (x : Numbering input tokens file) × IsStructured x.bodies x.system
+
+  built_judges : Judges Built IsFine
+  built_judges =
+      any (Numbering input tokens file) (λ x. IsMisbuilt file x.bodies x.system) (λ x. IsStructured x.bodies x.system)
+      (λ x y c i h. moved x y (λ bodies system. IsMisbuilt file bodies system c i) h)
+      (λ x y h. moved x y IsStructured h)
+      (λ x. structure_judges file x.bodies x.system)
+    where
+      moved : (x y : Numbering input tokens file) (P : List Named → Named → Type 0) → P y.bodies y.system → P x.bodies x.system
+      moved x y P h =
+          subst (λ bodies. P bodies x.system) (sym (one_list_of_bodies input tokens file x.values y.values x.bodies y.bodies x.system y.system x.numbered y.numbered))
+          (subst (P y.bodies) (sym (one_named_system input tokens file x.values y.values x.bodies y.bodies x.system y.system x.numbered y.numbered)) h)
+
+  -- a fault of names, sets and rates, by the cause that is told of it
+  abbrev FirstNamed : CheckCause → ℕ → Type 0
+  FirstNamed told i = (cause : ResolveCause) × (told ≡ told_cause_of cause) × IsNamesRefusedFor input tokens file cause i
+
+  misbuilt_behind : (cause : CheckCause) (i : ℕ) → IsMisbuiltFile input tokens file cause i → Behind FirstNamed (Numbering input tokens file) Built cause i
+  misbuilt_behind cause i h =
+      let x : Numbering input tokens file = record { values = h.values; bodies = h.bodies; system = h.system; numbered = h.numbered } in
+      inr (x, (x, h.misbuilt))
+
+  stopped_in_order : (cause : CheckCause) (i : ℕ) → IsStoppedFor input tokens file cause i → Behind FirstNamed (Numbering input tokens file) Built cause i
+  stopped_in_order TooMany i h = inl (resolver.TooManyLines, refl, h)
+  stopped_in_order Twice i h = inl (resolver.Twice, refl, h)
+  stopped_in_order UnknownName i h = inl (resolver.UnknownName, refl, h)
+  stopped_in_order TauInSet i h = inl (resolver.TauInSet, refl, h)
+  stopped_in_order BadRate i h = inl (resolver.BadRate, refl, h)
+  stopped_in_order NotSequential i h = misbuilt_behind NotSequential i h
+  stopped_in_order ModelCycle i h = misbuilt_behind ModelCycle i h
+  stopped_in_order Unguarded i h = misbuilt_behind Unguarded i h
+  stopped_in_order MixedChoice i h = elim h [ ]
+
+  stopped_judges : Judges (IsNamesRefusedFor input tokens file) (Numbering input tokens file) → Judges (IsStoppedFor input tokens file) IsFine
+  stopped_judges named =
+      fewer (Behind FirstNamed (Numbering input tokens file) Built) (IsStoppedFor input tokens file) (Numbering input tokens file × IsFine) IsFine
+      stopped_in_order (λ fine. (fine.0, fine))
+      (behind FirstNamed Built (Numbering input tokens file) IsFine
+      (told_by told_cause_of (IsNamesRefusedFor input tokens file) (Numbering input tokens file) named) built_judges)
 
 -- ---- the first mixed activity
 
@@ -150,7 +255,7 @@ module _ (input : List ℕ) (tokens : List Token) (file : FileNode) where
       (behind (IsStoppedFor input tokens file) LastOf (IsFine input tokens file) FineOf stopped sound_judges)
 
 judges : (input : List ℕ) (tokens : List Token) (tree : FileTree) → IsFileTree (terminals input tokens) tree → Judges (IsRefusedFor input tokens (file_node_of tree)) (HasModel input tokens (file_node_of tree))
-judges input tokens tree is = node_judges input tokens (file_node_of tree) (file_judges input tokens tree is)
+judges input tokens tree is = node_judges input tokens (file_node_of tree) (stopped_judges input tokens (file_node_of tree) (file_judges input tokens tree is))
 
 pub one_refusal : (input : List ℕ) (tokens : List Token) (tree : FileTree) (cause other : CheckCause) (i j : ℕ) → IsFileTree (terminals input tokens) tree → IsRefusedFor input tokens (file_node_of tree) cause i → IsRefusedFor input tokens (file_node_of tree) other j → (cause ≡ other) × (i ≡ j)
 one_refusal input tokens tree cause other i j is h k =
@@ -158,3 +263,7 @@ one_refusal input tokens tree cause other i j is h k =
 
 pub refused_or_read : (input : List ℕ) (tokens : List Token) (tree : FileTree) (cause : CheckCause) (i : ℕ) (m : PepaModel) → IsFileTree (terminals input tokens) tree → IsRefusedFor input tokens (file_node_of tree) cause i → ¬ IsModelOf input tokens (file_node_of tree) m
 refused_or_read input tokens tree cause i m is h read = (judges input tokens tree is).apart cause i h (m, read)
+
+pub refused_or_structured : (input : List ℕ) (tokens : List Token) (tree : FileTree) (cause : CheckCause) (i : ℕ) (values : List Rate) (bodies : List Named) (system : Named) → IsFileTree (terminals input tokens) tree → IsStoppedFor input tokens (file_node_of tree) cause i → IsNumberedFile input tokens (file_node_of tree) values bodies system → ¬ IsStructured bodies system
+refused_or_structured input tokens tree cause i values bodies system is h numbered structured =
+    (stopped_judges input tokens (file_node_of tree) (file_judges input tokens tree is)).apart cause i h (record { values = values; bodies = bodies; system = system; numbered = numbered }, structured)

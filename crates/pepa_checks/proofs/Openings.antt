@@ -6,16 +6,23 @@ use Rattle.std.proofs.lemmas.List.Elements.{Contains-append_left, Contains-appen
 use Rattle.pepa_model.specs.Expression.{Expression, Const, Definition}
 use Rattle.pepa_model.specs.Opened.{Opened, OpenPrefix, OpenChoice, OpenConst, Opens, height}
 use Rattle.pepa_resolver.specs.Named.{Named, NamedConstant, NamedPrefix, NamedChoice, NamedCoop, NamedHide, unguarded}
-use Rattle.pepa_resolver.specs.Structure.{UnguardedEdge}
-use Rattle.pepa_resolver.specs.Graphs.{IsOrder}
-use Rattle.pepa_resolver.proofs.Findings.{contains_here}
+use Rattle.pepa_checks.specs.Structure.{UnguardedEdge}
+use Rattle.node_orders.specs.Graphs.{IsOrder}
+use Rattle.node_orders.proofs.Elements.{contains_here}
 use Rattle.pepa_checks.specs.Outline.{expression_in, definitions_in, outline_with}
 use Rattle.pepa_checks.specs.Heights.{height_in}
 use Rattle.pepa_checks.specs.Built.{IsBuilt}
 use Rattle.pepa_checks.proofs.DefinitionsByNumber.{defines_at}
 use Rattle.pepa_checks.proofs.LeafProcesses.{leaf_written}
 use Rattle.pepa_checks.proofs.PlainProcesses.{IsPlain, IsLeafProcess, not_compound, sequential_body, leaf_process}
-use Rattle.pepa_checks.proofs.AlongOrders.{step, most_steps, along_order}
+use Rattle.node_orders.proofs.AlongOrders.{along_order}
+
+-- with each constant of an order the bound of a height grows by so much, and by this for 1,024 of them
+abbrev pub step : ℕ
+step = 1025
+
+abbrev pub most_steps : ℕ
+most_steps = 1024 * step
 
 -- the expression opens into a tree that is no higher
 pub record OpensWithin (definitions : List Definition) (most : ℕ) (e : Expression) : Type 0 where
@@ -75,7 +82,7 @@ module _ (sets : List (List ℕ)) (compounds : List Bool) (bodies : List Named) 
       let few : length bodies ≤ 1024 = built.few in
       let inside : c < length compounds = slice_get_within compounds c false unset in
       opens_higher definitions (length bodies * step) most_steps (Const c) (omega arith)
-      (along_order (UnguardedEdge bodies) (length bodies) order ordered Holds
+      (along_order step (UnguardedEdge bodies) (length bodies) order ordered Holds
       (λ k m d le holds unset_too. opens_higher definitions k m (Const d) le (holds unset_too)) next c (omega arith) unset)
 
   -- a process whose expression may be a leaf opens

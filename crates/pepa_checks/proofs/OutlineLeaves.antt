@@ -8,7 +8,7 @@ use Rattle.pepa_model.specs.Leaves.{without, each_once, same_expression, followe
 use Rattle.pepa_resolver.specs.Named.{Named, NamedConstant, NamedPrefix, NamedChoice, NamedCoop, NamedHide}
 use Rattle.pepa_checks.specs.Outline.{is_compound, expression_in, shape_in, definition_in, definitions_in, outline_with}
 use Rattle.pepa_checks.specs.Activities.{written_followers, written_components, written_in, written_leaves}
-use Rattle.pepa_checks.specs.Candidates.{Line, sequential_lines}
+use Rattle.pepa_checks.specs.Candidates.{ConstantLine, sequential_lines}
 use Rattle.pepa_checks.specs.LeafTables.{with_expression, with_expressions}
 use Rattle.pepa_checks.proofs.ListReads.{true_or_false}
 use Rattle.pepa_checks.proofs.LeafSteps.{expression_same, expression_equal}
@@ -149,7 +149,7 @@ any_listed es before e behind =
 
 -- ---- the expressions of a file's leaves
 
-abbrev pub line_const : Line → Expression
+abbrev pub line_const : ConstantLine → Expression
 line_const line = Const line.constant
 
 -- the sequential constants, and then the expressions of the processes

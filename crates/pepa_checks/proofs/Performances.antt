@@ -12,14 +12,14 @@ use Rattle.pepa_model.specs.declared.term.Activity.{Activity}
 use Rattle.pepa_model.specs.Expression.{Expression, Const, Prefixed, Chosen, Sequentially, Defines}
 use Rattle.pepa_model.specs.Opened.{Opened, OpenPrefix, OpenChoice, OpenConst, Opens, moves}
 use Rattle.pepa_resolver.specs.Named.{Named, NamedConstant, NamedPrefix, NamedChoice, NamedCoop, NamedHide, unguarded}
-use Rattle.pepa_resolver.specs.Structure.{has_system}
-use Rattle.pepa_resolver.specs.Graphs.{IsMarked}
+use Rattle.pepa_checks.specs.Structure.{has_system}
+use Rattle.node_orders.specs.Graphs.{SaysYes}
 use Rattle.pepa_checks.specs.declared.summand.Performed.{Performed}
 use Rattle.pepa_checks.specs.declared.summand.Summand.{Summand}
 use Rattle.pepa_checks.specs.Outline.{Outline, expression_in, definition_in, definitions_in}
 use Rattle.pepa_checks.specs.Activities.{leaf_number, activity_in, activities_in, sites, IsFirstWritten}
 use Rattle.pepa_checks.specs.Summands.{summands_in, leaf_summands, IsPerformed, IsPerformedBy}
-use Rattle.pepa_checks.specs.ActivityLists.{LeafChoices, outline, written, constant_list, performed_by, performed_in}
+use Rattle.pepa_checks.specs.ActivityLists.{LeafChoices, choices_outline, written, constant_list, performed_by, performed_in}
 use Rattle.pepa_checks.proofs.SizeCounting.{defined_by}
 use Rattle.pepa_checks.proofs.ProcessKinds.{plain_written, plain_body}
 
@@ -70,13 +70,13 @@ same_activity leaves a b r s x y is =
     let e3 : x ≡ y = cc in
     ap (λ n. activity_of n r (leaf_number leaves x)) e1 ∙ (ap (λ q. activity_of b q (leaf_number leaves x)) e2 ∙ ap (λ z. activity_of b s (leaf_number leaves z)) e3)
 
-module _ (outline : Outline) (bodies : List Named) (within : (c : ℕ) (e : Expression) → Defines outline.definitions c e → c < length bodies) (constants : List ℕ) (lists : List (List Performed)) where
+module _ (choices_outline : Outline) (bodies : List Named) (within : (c : ℕ) (e : Expression) → Defines choices_outline.definitions c e → c < length bodies) (constants : List ℕ) (lists : List (List Performed)) where
   -- the list of the constant is what it performs
   record Answers (d : ℕ) (opened : Opened) : Type 0 where
-    activities : map act (constant_list constants lists d) ≡ activities_in outline.leaves opened
+    activities : map act (constant_list constants lists d) ≡ activities_in choices_outline.leaves opened
     places : map at_of (constant_list constants lists d) ≡ sites bodies (NamedConstant 0 d) opened
 
-  same_sites : (at d : ℕ) (opened : Opened) → Opens outline.definitions (Const d) opened → sites bodies (NamedConstant 0 d) opened ≡ sites bodies (NamedConstant at d) opened
+  same_sites : (at d : ℕ) (opened : Opened) → Opens choices_outline.definitions (Const d) opened → sites bodies (NamedConstant 0 d) opened ≡ sites bodies (NamedConstant at d) opened
   same_sites at d (OpenPrefix a r next) is = absurd cc
   same_sites at d (OpenChoice p q) (x, y, is, first, second) = absurd cc
   same_sites at d (OpenConst e p) (is, (body, defined, rest)) =
@@ -84,9 +84,9 @@ module _ (outline : Outline) (bodies : List Named) (within : (c : ℕ) (e : Expr
       let low : d < length bodies = subst (λ n. n < length bodies) (sym same) (within e body defined) in
       ap (λ (b : Named). sites bodies b p) (get_or_default bodies d (NamedConstant 0 d) (NamedConstant at d) low)
 
-  answered : (process : Named) (opened : Opened) → has_system process ≡ false → Opens outline.definitions (expression_in process) opened
-      → ((d : ℕ) (q : Opened) → Contains (unguarded process) d → Opens outline.definitions (Const d) q → Answers d q)
-      → IsPerformed outline bodies process opened (performed_in constants lists (summands_in outline.leaves process))
+  answered : (process : Named) (opened : Opened) → has_system process ≡ false → Opens choices_outline.definitions (expression_in process) opened
+      → ((d : ℕ) (q : Opened) → Contains (unguarded process) d → Opens choices_outline.definitions (Const d) q → Answers d q)
+      → IsPerformed choices_outline bodies process opened (performed_in constants lists (summands_in choices_outline.leaves process))
   answered (NamedConstant at c) opened plain opens answers =
       let list = constant_list constants lists c in
       let known = answers c opened (Contains-push [] c) opens in
@@ -95,7 +95,7 @@ module _ (outline : Outline) (bodies : List Named) (within : (c : ℕ) (e : Expr
         places = ap (map at_of) (append-nil list) ∙ (known.places ∙ same_sites at c opened opens);
       }
   answered (NamedPrefix at action rate next) (OpenPrefix a r e) plain is answers = record {
-    activities = ap (λ (x : Activity). x ∷ []) (same_activity outline.leaves action a rate r (expression_in next) e is);
+    activities = ap (λ (x : Activity). x ∷ []) (same_activity choices_outline.leaves action a rate r (expression_in next) e is);
     places = refl;
   }
   answered (NamedPrefix at action rate next) (OpenChoice p q) plain (x, y, is, first, second) answers = absurd cc
@@ -103,12 +103,12 @@ module _ (outline : Outline) (bodies : List Named) (within : (c : ℕ) (e : Expr
   answered (NamedChoice left right) (OpenPrefix a r e) plain is answers = absurd cc
   answered (NamedChoice left right) (OpenChoice p q) plain (x, y, is, first, second) answers =
       let f = performed_by constants lists in
-      let leaves = outline.leaves in
+      let leaves = choices_outline.leaves in
       let e1 : x ≡ expression_in left = cc in
       let e2 : y ≡ expression_in right = cc in
-      let before = answered left p (or_left (has_system left) (has_system right) plain) (subst (λ z. Opens outline.definitions z p) e1 first)
+      let before = answered left p (or_left (has_system left) (has_system right) plain) (subst (λ z. Opens choices_outline.definitions z p) e1 first)
       (λ d o among. answers d o (Contains-append_left (unguarded left) (unguarded right) d among)) in
-      let behind = answered right q (or_right (has_system left) (has_system right) plain) (subst (λ z. Opens outline.definitions z q) e2 second)
+      let behind = answered right q (or_right (has_system left) (has_system right) plain) (subst (λ z. Opens choices_outline.definitions z q) e2 second)
       (λ d o among. answers d o (Contains-append_right (unguarded left) (unguarded right) d among)) in
       let split = flat_map-append f (summands_in leaves left) (summands_in leaves right) in
       let one = performed_in constants lists (summands_in leaves left) in
@@ -146,7 +146,7 @@ is_defined compounds sets bodies c e defined =
 
 module _ (compounds : List Bool) (order constants : List ℕ) (leaves : List (List Summand)) (choices : LeafChoices compounds order constants leaves) where
   abbrev file : Outline
-  file = outline choices
+  file = choices_outline choices
 
   -- the list of the leaf is what it performs
   abbrev pub IsSoundAt : List (List Performed) → ℕ → Type 0
@@ -154,7 +154,7 @@ module _ (compounds : List Bool) (order constants : List ℕ) (leaves : List (Li
       → IsPerformedBy file choices.bodies (written choices) leaf list
 
   abbrev pub AreSound : List Bool → List (List Performed) → Type 0
-  AreSound made lists = (number : ℕ) → IsMarked made number → IsSoundAt lists number
+  AreSound made lists = (number : ℕ) → SaysYes made number → IsSoundAt lists number
 
   within_bodies : (c : ℕ) (e : Expression) → Defines file.definitions c e → c < length choices.bodies
   within_bodies c e defined =
@@ -168,7 +168,7 @@ module _ (compounds : List Bool) (order constants : List ℕ) (leaves : List (Li
 
   -- a constant whose list is made
   answers_made : (made : List Bool) (lists : List (List Performed)) → AreSound made lists → length lists ≡ length leaves
-      → (d : ℕ) (q : Opened) → Opens file.definitions (Const d) q → (slice_get compounds d ≡ Some false → IsMarked made (get_or constants d 0))
+      → (d : ℕ) (q : Opened) → Opens file.definitions (Const d) q → (slice_get compounds d ≡ Some false → SaysYes made (get_or constants d 0))
       → Answers file choices.bodies within_bodies constants lists d q
   answers_made made lists sound sizes d (OpenPrefix a r next) is ready = absurd cc
   answers_made made lists sound sizes d (OpenChoice p q) (x, y, is, first, second) ready = absurd cc
@@ -189,12 +189,12 @@ module _ (compounds : List Bool) (order constants : List ℕ) (leaves : List (Li
   -- the constants that stand in what the leaf chooses between are made
   abbrev pub IsReadyFor : List Bool → Expression → Type 0
   IsReadyFor made leaf = (process : Named) → IsFirstWritten (written choices) leaf process → (d : ℕ) → Contains (unguarded (chooser choices.bodies process)) d
-      → slice_get compounds d ≡ Some false → IsMarked made (get_or constants d 0)
+      → slice_get compounds d ≡ Some false → SaysYes made (get_or constants d 0)
 
   module _ (made : List Bool) (lists : List (List Performed)) (sound : AreSound made lists) (sizes : length lists ≡ length leaves) where
     -- a leaf that is a constant
     constant_performs : (c : ℕ) (process : Named) (opened : Opened) → process ≡ NamedConstant 0 c → Opens file.definitions (Const c) opened
-        → ((d : ℕ) → Contains (unguarded (chooser choices.bodies process)) d → slice_get compounds d ≡ Some false → IsMarked made (get_or constants d 0))
+        → ((d : ℕ) → Contains (unguarded (chooser choices.bodies process)) d → slice_get compounds d ≡ Some false → SaysYes made (get_or constants d 0))
         → IsPerformed file choices.bodies process opened (performed_in constants lists (leaf_summands file.leaves choices.bodies process))
     constant_performs c process (OpenPrefix a r next) process_is is ready = absurd cc
     constant_performs c process (OpenChoice p q) process_is (x, y, is, first, second) ready = absurd cc
@@ -215,7 +215,7 @@ module _ (compounds : List Bool) (order constants : List ℕ) (leaves : List (Li
 
     -- another leaf
     process_performs : (process : Named) (opened : Opened) → ((c : ℕ) → expression_in process ≡ Const c → ⊥) → Contains (written choices) process → Opens file.definitions (expression_in process) opened
-        → ((d : ℕ) → Contains (unguarded (chooser choices.bodies process)) d → slice_get compounds d ≡ Some false → IsMarked made (get_or constants d 0))
+        → ((d : ℕ) → Contains (unguarded (chooser choices.bodies process)) d → slice_get compounds d ≡ Some false → SaysYes made (get_or constants d 0))
         → IsPerformed file choices.bodies process opened (performed_in constants lists (leaf_summands file.leaves choices.bodies process))
     process_performs process opened other among opens ready =
         let plain = plain_written compounds choices.bodies choices.system choices.sequential process among in
@@ -233,7 +233,7 @@ module _ (compounds : List Bool) (order constants : List ℕ) (leaves : List (Li
         subst (λ xs. Contains xs process) (sym is) (Contains-append_right before (process ∷ behind) process (Contains-append_left (process ∷ []) behind process (Contains-push [] process)))
 
     leaf_performs : (leaf : Expression) (process : Named) (opened : Opened) → IsFirstWritten (written choices) leaf process → Opens file.definitions leaf opened
-        → ((d : ℕ) → Contains (unguarded (chooser choices.bodies process)) d → slice_get compounds d ≡ Some false → IsMarked made (get_or constants d 0))
+        → ((d : ℕ) → Contains (unguarded (chooser choices.bodies process)) d → slice_get compounds d ≡ Some false → SaysYes made (get_or constants d 0))
         → IsPerformed file choices.bodies process opened (performed_in constants lists (leaf_summands file.leaves choices.bodies process))
     leaf_performs (Const c) process opened process_is opens ready = constant_performs c process opened process_is opens ready
     leaf_performs (Prefixed a r next) process opened (before, behind, whole, is, first) opens ready =

@@ -3,10 +3,9 @@ use Rattle.std.proofs.Common.{◌≡◌, ℕ, suc, ◌+◌, ◌<◌, ◌≤◌, 
 use Rattle.std.specs.List.{Contains}
 use Rattle.std.proofs.lemmas.List.Elements.{Contains-append_left, Contains-append_right, Contains-append_cases, Contains-push}
 use Rattle.pepa_resolver.specs.Named.{Named, NamedConstant, NamedPrefix, NamedChoice, NamedCoop, NamedHide, constants_named, sequential_parts, first_at}
-use Rattle.pepa_resolver.specs.Structure.{IsCompound, IsSystem}
-use Rattle.pepa_resolver.specs.Graphs.{AreBelow, IsTableOf}
-use Rattle.pepa_resolver.proofs.Findings.{no_element, one_element, contains_here, contains_there, contains_cases}
-use Rattle.pepa_resolver.proofs.Bodies.{contains_from_get}
+use Rattle.pepa_checks.specs.Structure.{IsCompoundConstant, IsSystem}
+use Rattle.node_orders.specs.Graphs.{AreBelow, IsTableOf}
+use Rattle.node_orders.proofs.Elements.{no_element, one_element, contains_here, contains_there, contains_cases, contains_from_get}
 use Rattle.pepa_checks.specs.Outline.{is_compound}
 use Rattle.pepa_checks.specs.Activities.{written_followers, written_components, written_in, written_leaves}
 use Rattle.pepa_checks.specs.Heights.{height_in, most_height}
@@ -35,7 +34,7 @@ IsLeafProcess compounds process = IsPlain compounds process × (height_in proces
 
 -- ---- from the structure
 
-module _ (compounds : List Bool) (bodies : List Named) (one_each : length compounds ≡ length bodies) (table : IsTableOf (IsCompound bodies) compounds) where
+module _ (compounds : List Bool) (bodies : List Named) (one_each : length compounds ≡ length bodies) (table : IsTableOf (IsCompoundConstant bodies) compounds) where
   abbrev AreSequential : Named → Type 0
   AreSequential process = (part : Named) → Contains (sequential_parts process) part → ¬ IsSystem bodies part
 
@@ -69,7 +68,7 @@ module _ (compounds : List Bool) (bodies : List Named) (one_each : length compou
   plain_parts (NamedHide inner set) parts below = plain_parts inner parts below
 
   -- a sequential constant isn't compound
-  pub not_compound : (c : ℕ) → slice_get compounds c ≡ Some false → ¬ IsCompound bodies c
+  pub not_compound : (c : ℕ) → slice_get compounds c ≡ Some false → ¬ IsCompoundConstant bodies c
   not_compound c unset compound = let set : slice_get compounds c ≡ Some true = table.complete c compound in cc
 
   -- so its body is no system

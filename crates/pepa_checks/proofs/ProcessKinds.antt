@@ -6,9 +6,9 @@ use Rattle.std.proofs.lemmas.List.Elements.{Contains-append_left, Contains-appen
 use Rattle.pepa_rates.specs.declared.rate.Rate.{Rate}
 use Rattle.pepa_resolver.specs.Named.{Named, NamedConstant, NamedPrefix, NamedChoice, NamedCoop, NamedHide, sequential_parts}
 use Rattle.pepa_resolver.specs.Faults.{HasNone}
-use Rattle.pepa_resolver.specs.Structure.{has_system, IsCompound, NotSequentialAt}
-use Rattle.pepa_resolver.specs.Graphs.{IsTableOf}
-use Rattle.pepa_resolver.proofs.Sequentials.{contains_cons}
+use Rattle.pepa_checks.specs.Structure.{has_system, IsCompoundConstant, NotSequentialAt}
+use Rattle.node_orders.specs.Graphs.{IsTableOf}
+use Rattle.pepa_checks.proofs.Sequentials.{contains_cons}
 use Rattle.pepa_checks.specs.Outline.{is_compound}
 use Rattle.pepa_checks.specs.Activities.{written_followers, written_components, written_in, written_leaves}
 
@@ -104,7 +104,7 @@ module _ (compounds : List Bool) (bodies : List Named) (system : Named) (sequent
       ]
 
 -- the body of a sequential constant
-pub plain_body : (compounds : List Bool) (bodies : List Named) (c : ℕ) (body : Named) → IsTableOf (IsCompound bodies) compounds → slice_get compounds c ≡ Some false → slice_get bodies c ≡ Some body → has_system body ≡ false
+pub plain_body : (compounds : List Bool) (bodies : List Named) (c : ℕ) (body : Named) → IsTableOf (IsCompoundConstant bodies) compounds → slice_get compounds c ≡ Some false → slice_get bodies c ≡ Some body → has_system body ≡ false
 plain_body compounds bodies c body table flag_is body_is =
     not_true (has_system body) (λ is_so. let marked = table.complete c (zero, (body, body_is, is_so)) in some_apart (sym flag_is ∙ marked))
   where

@@ -12,13 +12,13 @@ use Rattle.pepa_model.specs.Expanded.{Expanded, LeafTree, ConstTree, CoopTree, H
 use Rattle.pepa_resolver.specs.Named.{Named, NamedConstant, NamedCoop, NamedHide, constants_named}
 use Rattle.pepa_resolver.specs.declared.named.NamedProcess.{NamedProcess}
 use Rattle.pepa_resolver.specs.NamedTypes.{named_of, bodies_of}
-use Rattle.pepa_resolver.specs.Graphs.{IsOrder, IsTableOf, AreBelow}
-use Rattle.pepa_resolver.specs.Structure.{CompoundEdge}
-use Rattle.pepa_resolver.specs.Structure as structure
+use Rattle.node_orders.specs.Graphs.{IsOrder, IsTableOf, AreBelow}
+use Rattle.pepa_checks.specs.Structure.{CompoundEdge}
+use Rattle.pepa_checks.specs.Structure as structure
 use Rattle.pepa_checks.specs.declared.system_size.Measure.{Measure}
 use Rattle.pepa_checks.specs.declared.system_size.Measure.TheVariants.{Leaves, Nodes}
 use Rattle.pepa_checks.specs.Outline.{is_compound, shape_in, definition_in, definitions_in}
-use Rattle.pepa_checks.specs.SystemSizes.{measured, own_count, most_of, capped, CountsSize, HasCounts, IsCountIn}
+use Rattle.pepa_checks.specs.SystemSizes.{measured, own_count, most_of, capped_count, CountsSize, HasCounts, IsCountIn}
 
 -- ---- definitions
 
@@ -54,11 +54,11 @@ hide_measured : (measure : Measure) (p : Expanded) (set : ℕ) → measured meas
 hide_measured Leaves p set = omega arith
 hide_measured Nodes p set = omega arith
 
-one_leaf : (measure : Measure) (e : Expression) → 1 ≡ capped measure (measured measure (LeafTree e))
+one_leaf : (measure : Measure) (e : Expression) → 1 ≡ capped_count measure (measured measure (LeafTree e))
 one_leaf Leaves e = refl
 one_leaf Nodes e = refl
 
-none_capped : (measure : Measure) → 0 ≡ capped measure 0
+none_capped : (measure : Measure) → 0 ≡ capped_count measure 0
 none_capped Leaves = refl
 none_capped Nodes = refl
 
@@ -71,7 +71,7 @@ module _ (measure : Measure) (definitions : List Definition) where
   const_counts c n counts (LeafTree e) is = absurd cc
   const_counts c n counts (ConstTree d p) (is, (body, compound, expands)) =
       let same : c ≡ d = cc in
-      counts body (subst (λ x. IsCompound definitions x body) (sym same) compound) p expands ∙ ap (capped measure) (sym (const_measured measure d p))
+      counts body (subst (λ x. IsCompound definitions x body) (sym same) compound) p expands ∙ ap (capped_count measure) (sym (const_measured measure d p))
   const_counts c n counts (CoopTree p q members) (x, y, is, first, second) = absurd cc
   const_counts c n counts (HideTree p members) (x, is, rest) = absurd cc
 
@@ -81,23 +81,23 @@ module _ (measure : Measure) (definitions : List Definition) where
   leaf_counts e (CoopTree p q members) (x, y, is, first, second) = absurd cc
   leaf_counts e (HideTree p members) (x, is, rest) = absurd cc
 
-  coop_counts : (x y : Shape) (set a b r : ℕ) → ((m n : ℕ) → a ≡ capped measure m → b ≡ capped measure n → r ≡ capped measure ((m + n) + own_count measure)) → CountsSize measure definitions x a → CountsSize measure definitions y b → CountsSize measure definitions (CoopShape x y set) r
+  coop_counts : (x y : Shape) (set a b r : ℕ) → ((m n : ℕ) → a ≡ capped_count measure m → b ≡ capped_count measure n → r ≡ capped_count measure ((m + n) + own_count measure)) → CountsSize measure definitions x a → CountsSize measure definitions y b → CountsSize measure definitions (CoopShape x y set) r
   coop_counts x y set a b r joined left right (LeafTree e) is = absurd cc
   coop_counts x y set a b r joined left right (ConstTree d p) (is, rest) = absurd cc
   coop_counts x y set a b r joined left right (CoopTree p q s) (v, w, is, first, second) =
       let same : x ≡ v = cc in
       let also : y ≡ w = cc in
       joined (measured measure p) (measured measure q) (left p (subst (λ z. Expands definitions z p) (sym same) first)) (right q (subst (λ z. Expands definitions z q) (sym also) second))
-      ∙ ap (capped measure) (sym (coop_measured measure p q s))
+      ∙ ap (capped_count measure) (sym (coop_measured measure p q s))
   coop_counts x y set a b r joined left right (HideTree p s) (v, is, rest) = absurd cc
 
-  hide_counts : (x : Shape) (set n r : ℕ) → ((m k : ℕ) → n ≡ capped measure m → 0 ≡ capped measure k → r ≡ capped measure ((m + k) + own_count measure)) → CountsSize measure definitions x n → CountsSize measure definitions (HideShape x set) r
+  hide_counts : (x : Shape) (set n r : ℕ) → ((m k : ℕ) → n ≡ capped_count measure m → 0 ≡ capped_count measure k → r ≡ capped_count measure ((m + k) + own_count measure)) → CountsSize measure definitions x n → CountsSize measure definitions (HideShape x set) r
   hide_counts x set n r joined counts (LeafTree e) is = absurd cc
   hide_counts x set n r joined counts (ConstTree d p) (is, rest) = absurd cc
   hide_counts x set n r joined counts (CoopTree p q s) (v, w, is, first, second) = absurd cc
   hide_counts x set n r joined counts (HideTree p s) (v, is, inner) =
       let same : x ≡ v = cc in
-      joined (measured measure p) 0 (counts p (subst (λ z. Expands definitions z p) (sym same) inner)) (none_capped measure) ∙ ap (capped measure) (sym (hide_measured measure p s))
+      joined (measured measure p) 0 (counts p (subst (λ z. Expands definitions z p) (sym same) inner)) (none_capped measure) ∙ ap (capped_count measure) (sym (hide_measured measure p s))
 
 -- ---- the processes
 
@@ -137,7 +137,7 @@ module _ (measure : Measure) (compounds : List Bool) (counts : List ℕ) where
       let definitions = definitions_in compounds sets compounds bodies in
       subst (λ shape. CountsSize measure definitions shape 1) (sym (is sets)) (leaf_counts measure definitions e)
 
-  pub count_coop : (left right : Named) (set : List ℕ) (a b r : ℕ) → ((m n : ℕ) → a ≡ capped measure m → b ≡ capped measure n → r ≡ capped measure ((m + n) + own_count measure))
+  pub count_coop : (left right : Named) (set : List ℕ) (a b r : ℕ) → ((m n : ℕ) → a ≡ capped_count measure m → b ≡ capped_count measure n → r ≡ capped_count measure ((m + n) + own_count measure))
       → IsCountIn measure compounds counts (constants_named left) left a → IsCountIn measure compounds counts (constants_named right) right b
       → IsCountIn measure compounds counts (constants_named (NamedCoop left right set)) (NamedCoop left right set) r
   count_coop left right set a b r joined first second sets bodies has =
@@ -146,7 +146,7 @@ module _ (measure : Measure) (compounds : List Bool) (counts : List ℕ) where
       (first sets bodies (λ c shape among compound. has c shape (Contains-append_left (constants_named left) (constants_named right) c among) compound))
       (second sets bodies (λ c shape among compound. has c shape (Contains-append_right (constants_named left) (constants_named right) c among) compound))
 
-  pub count_hide : (inner : Named) (set : List ℕ) (n r : ℕ) → ((m k : ℕ) → n ≡ capped measure m → 0 ≡ capped measure k → r ≡ capped measure ((m + k) + own_count measure))
+  pub count_hide : (inner : Named) (set : List ℕ) (n r : ℕ) → ((m k : ℕ) → n ≡ capped_count measure m → 0 ≡ capped_count measure k → r ≡ capped_count measure ((m + k) + own_count measure))
       → IsCountIn measure compounds counts (constants_named inner) inner n → IsCountIn measure compounds counts (constants_named inner) (NamedHide inner set) r
   count_hide inner set n r joined inside sets bodies has =
       hide_counts measure (definitions_in compounds sets compounds bodies) (shape_in compounds sets inner) _ n r joined (inside sets bodies has)
@@ -161,7 +161,7 @@ module _ (measure : Measure) (compounds : List Bool) (bodies : List Named) (sets
   none_counted counts c shape among = absurd (omega (arith, among.1))
 
   -- the constants in the body of one that stands in the order are counted in front of it
-  pub body_counted : (count : ℕ) (order counts : List ℕ) (k at : ℕ) (body : Named) → IsTableOf (structure.IsCompound bodies) compounds → IsOrder (CompoundEdge bodies) count order
+  pub body_counted : (count : ℕ) (order counts : List ℕ) (k at : ℕ) (body : Named) → IsTableOf (structure.IsCompoundConstant bodies) compounds → IsOrder (CompoundEdge bodies) count order
       → k < length order → at ≡ get_or order k 0 → get_or compounds at false ≡ true → at < length compounds → slice_get bodies at ≡ Some body
       → HasCounts measure defined counts (take k order) → HasCounts measure defined counts (constants_named body)
   body_counted count order counts k at body table in_order low at_is marked within body_is so_far c shape among compound =
@@ -218,7 +218,7 @@ pub body_at : (bodies : List NamedProcess) (at : ℕ) (body : NamedProcess) → 
 body_at bodies at body low is = slice_get-map named_of bodies at ∙ ap (option_map named_of) (slice_get_read bodies (length bodies) at body refl low is)
 
 -- whether the kept count is above the most
-pub is_many : (measure : Measure) (size count : ℕ) → count ≡ capped measure size → IsTrue (ltb (most_of measure) count) ↔ (most_of measure < size)
+pub is_many : (measure : Measure) (size count : ℕ) → count ≡ capped_count measure size → IsTrue (ltb (most_of measure) count) ↔ (most_of measure < size)
 is_many measure size count is = (
   (λ many. let low = ltb-true (most_of measure) count many in omega arith),
   (λ many. lt-ltb (most_of measure) count (omega arith)),

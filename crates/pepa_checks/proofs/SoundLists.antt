@@ -1,5 +1,5 @@
 -- The lists of leaves stay what the leaves perform, as one after another is made.
-use Rattle.std.proofs.Common.{◌≡◌, ℕ, zero, suc, ◌+◌, ◌<◌, ◌≤◌, inl, inr, Bool, true, false, List, [], ◌∷◌, ◌++◌, length, get_or, set, take, drop, refl, sym, ◌∙◌, ap, subst, arith, Some, length-set, get_or-set_same, get_or-set_other, take-append-drop}
+use Rattle.std.proofs.Common.{◌≡◌, ℕ, zero, suc, ◌+◌, ◌<◌, ◌≤◌, inl, inr, Bool, true, false, List, [], ◌∷◌, ◌++◌, length, get_or, set, take, drop, refl, sym, ◌∙◌, ap, subst, arith, Some, length-set, get_or-set_same, get_or-set_other, take-append-drop, Err}
 use Rattle.std.specs.Prelude.{slice_get, sum_by}
 use Rattle.std.specs.List.{Contains, AllZip}
 use Rattle.std.proofs.lemmas.Bool.{cases_eq, false≢true}
@@ -10,18 +10,20 @@ use Rattle.std.proofs.lemmas.Option.{slice_get_within, slice_get-get_or, slice_g
 use Rattle.pepa_model.specs.Expression.{Expression, Const}
 use Rattle.pepa_model.specs.Opened.{Opened, Opens, moves}
 use Rattle.pepa_resolver.specs.Named.{Named, NamedConstant, unguarded}
-use Rattle.pepa_resolver.specs.Structure.{UnguardedEdge}
-use Rattle.pepa_resolver.specs.Graphs.{IsMarked}
-use Rattle.pepa_resolver.proofs.Marks.{marked_at, marked_set, marked_kept, marked_before}
+use Rattle.pepa_checks.specs.Structure.{UnguardedEdge}
+use Rattle.node_orders.specs.Graphs.{SaysYes}
+use Rattle.node_orders.proofs.Marks.{marked_at, marked_set, marked_kept, marked_before}
 use Rattle.pepa_checks.specs.declared.summand.Performed.{Performed}
 use Rattle.pepa_checks.specs.declared.summand.Summand.{Summand}
 use Rattle.pepa_checks.specs.declared.activities.Lists.{Lists}
-use Rattle.pepa_checks.specs.declared.limit_end.LimitEnd.{LimitEnd}
-use Rattle.pepa_checks.specs.declared.limit_end.LimitEnd.TheVariants.{TooMany, Memory}
+use Rattle.fault_ends.specs.declared.end.End.{End}
+use Rattle.fault_ends.specs.declared.end.End.TheVariants.{Fault, Memory}
+use Rattle.fault_ends.specs.Answers.{OkOrFault}
+use Rattle.pepa_checks.specs.declared.over_limit.OverLimit.{OverLimit}
 use Rattle.pepa_checks.specs.Outline.{Outline}
 use Rattle.pepa_checks.specs.Activities.{activity_in}
 use Rattle.pepa_checks.specs.Summands.{IsPerformed, IsPerformedBy, ArePerformed}
-use Rattle.pepa_checks.specs.ActivityLists.{LeafChoices, outline, written, IsActivitiesEnd, performed_in, AreKept, MakesList, PassesMost}
+use Rattle.pepa_checks.specs.ActivityLists.{LeafChoices, choices_outline, written, OpensIntoMany, performed_in, AreSoFar, MakesList, PassesMost}
 use Rattle.pepa_checks.proofs.ListsMaking.{marked_read}
 use Rattle.pepa_checks.proofs.Performances.{chooser, AreSound, IsReadyFor, performs, constant_leaf}
 
@@ -66,13 +68,13 @@ module _ (constants : List ℕ) (operands : List Summand) (number : ℕ) (before
   sizes_after (inl (marked, made_is, lists_is)) = ap length lists_is
   sizes_after (inr (made_is, lists_is)) = ap length lists_is ∙ length-set before.lists number (performed_in constants before.lists operands)
 
-  pub marked_after : number < length before.made → MakesList constants operands number before after → IsMarked after.made number
-  marked_after low (inl (marked, made_is, lists_is)) = subst (λ (xs : List Bool). IsMarked xs number) (sym made_is) marked
-  marked_after low (inr (made_is, lists_is)) = subst (λ (xs : List Bool). IsMarked xs number) (sym made_is) (marked_set before.made number low)
+  pub marked_after : number < length before.made → MakesList constants operands number before after → SaysYes after.made number
+  marked_after low (inl (marked, made_is, lists_is)) = subst (λ (xs : List Bool). SaysYes xs number) (sym made_is) marked
+  marked_after low (inr (made_is, lists_is)) = subst (λ (xs : List Bool). SaysYes xs number) (sym made_is) (marked_set before.made number low)
 
-  pub still_after : (n : ℕ) → MakesList constants operands number before after → IsMarked before.made n → IsMarked after.made n
-  still_after n (inl (marked, made_is, lists_is)) known = subst (λ (xs : List Bool). IsMarked xs n) (sym made_is) known
-  still_after n (inr (made_is, lists_is)) known = subst (λ (xs : List Bool). IsMarked xs n) (sym made_is) (marked_kept before.made number n known)
+  pub still_after : (n : ℕ) → MakesList constants operands number before after → SaysYes before.made n → SaysYes after.made n
+  still_after n (inl (marked, made_is, lists_is)) known = subst (λ (xs : List Bool). SaysYes xs n) (sym made_is) known
+  still_after n (inr (made_is, lists_is)) known = subst (λ (xs : List Bool). SaysYes xs n) (sym made_is) (marked_kept before.made number n known)
 
 set_same : {X : Type 0} (xs : List X) (n : ℕ) (x y d : X) → n < length xs → slice_get (set xs n x) n ≡ Some y → y ≡ x
 set_same xs n x y d low is = sym (get_or_from_slice_get (set xs n x) n y d is) ∙ get_or-set_same xs n x d low
@@ -84,7 +86,7 @@ set_apart xs n m x y d apart is =
 
 module _ (compounds : List Bool) (order constants : List ℕ) (leaves : List (List Summand)) (choices : LeafChoices compounds order constants leaves) where
   abbrev file : Outline
-  file = outline choices
+  file = choices_outline choices
 
   abbrev Sound : List Bool → List (List Performed) → Type 0
   Sound made lists = AreSound compounds order constants leaves choices made lists
@@ -104,11 +106,11 @@ module _ (compounds : List Bool) (order constants : List ℕ) (leaves : List (Li
         subst (λ (l : List Performed). IsPerformedBy file choices.bodies (written choices) leaf l) (sym list_same)
         (performs compounds order constants leaves choices made lists sound sizes number leaf operands leaf_here operands_are (ready leaf leaf_here))
     | inr apart ↦
-        let marked_too : IsMarked made n = elim (marked_before made number n marked) [ inl known ↦ known | inr same ↦ absurd (apart (sym same)) ] in
+        let marked_too : SaysYes made n = elim (marked_before made number n marked) [ inl known ↦ known | inr same ↦ absurd (apart (sym same)) ] in
         sound n marked_too leaf list leaf_is (set_apart lists number n (performed_in constants lists operands) list [] apart list_is)
   ]
 
-  pub sound_after : (before after : Lists) (number : ℕ) (operands : List Summand) → AreKept before → length before.lists ≡ length leaves → slice_get leaves number ≡ Some operands
+  pub sound_after : (before after : Lists) (number : ℕ) (operands : List Summand) → AreSoFar before → length before.lists ≡ length leaves → slice_get leaves number ≡ Some operands
       → IsReadyAt before.made number → Sound before.made before.lists → MakesList constants operands number before after → Sound after.made after.lists
   sound_after before after number operands kept sizes operands_are ready sound (inl (marked, made_is, lists_is)) =
       subst (λ xs. Sound xs after.lists) (sym made_is) (subst (λ xs. Sound before.made xs) (sym lists_is) sound)
@@ -118,7 +120,7 @@ module _ (compounds : List Bool) (order constants : List ℕ) (leaves : List (Li
 
   -- no more activities than the opened expressions have
   bounded : (made : List Bool) (lists : List (List Performed)) → Sound made lists → length lists ≡ length leaves → length made ≡ length lists
-      → ((n : ℕ) → ¬ IsMarked made n → get_or lists n [] ≡ [])
+      → ((n : ℕ) → ¬ SaysYes made n → get_or lists n [] ≡ [])
       → (opened : List Opened) → AllZip (Opens file.definitions) file.leaves opened → sum_by length lists ≤ sum_by (λ tree. length (moves tree)) opened
   bounded made lists sound sizes marks empty opened zip =
       let e = zip_length (Opens file.definitions) file.leaves opened zip in
@@ -145,10 +147,10 @@ module _ (compounds : List Bool) (order constants : List ℕ) (leaves : List (Li
               let e = ap length none in
               omega arith
 
-  pub end_after : (before : Lists) (number : ℕ) (operands : List Summand) (end : LimitEnd) → AreKept before → length before.lists ≡ length leaves → slice_get leaves number ≡ Some operands
-      → IsReadyAt before.made number → Sound before.made before.lists → PassesMost constants operands number before end → IsActivitiesEnd choices end
-  end_after before number operands Memory kept sizes operands_are ready sound passes = tt
-  end_after before number operands TooMany kept sizes operands_are ready sound passes = λ opened zip.
+  pub end_after : {T U : Type 0} (P : T → Type 0) (Q : U → Type 0) (before : Lists) (number : ℕ) (operands : List Summand) (end : End OverLimit) → AreSoFar before → length before.lists ≡ length leaves → slice_get leaves number ≡ Some operands
+      → IsReadyAt before.made number → Sound before.made before.lists → OkOrFault (Err end) P (λ _. PassesMost constants operands number before) → OkOrFault (Err end) Q (λ _. OpensIntoMany (choices_outline choices))
+  end_after P Q before number operands Memory kept sizes operands_are ready sound passes = tt
+  end_after P Q before number operands (Fault over) kept sizes operands_are ready sound passes = λ opened zip.
       let lists = performed_in constants before.lists operands in
       let sound_too = sound_set before.made before.lists number operands sizes kept.sizes operands_are ready sound in
       let e = length-set before.lists number lists in
@@ -157,18 +159,18 @@ module _ (compounds : List Bool) (order constants : List ℕ) (leaves : List (Li
       let most = bounded (set before.made number true) (set before.lists number lists) sound_too (omega arith) (omega arith) empty opened zip in
       omega arith
     where
-      empty : (n : ℕ) → ¬ IsMarked (set before.made number true) n → get_or (set before.lists number (performed_in constants before.lists operands)) n [] ≡ []
+      empty : (n : ℕ) → ¬ SaysYes (set before.made number true) n → get_or (set before.lists number (performed_in constants before.lists operands)) n [] ≡ []
       empty n unmade = elim (cases_eq n number) [
         | inl same ↦
             let low : number < length before.made = let h = slice_get_within leaves number operands operands_are in let e = kept.sizes in omega arith in
-            absurd (unmade (subst (λ m. IsMarked (set before.made number true) m) (sym same) (marked_set before.made number low)))
+            absurd (unmade (subst (λ m. SaysYes (set before.made number true) m) (sym same) (marked_set before.made number low)))
         | inr apart ↦ get_or-set_other before.lists number n (performed_in constants before.lists operands) [] apart ∙ kept.empty n (λ marked. unmade (marked_kept before.made number n marked))
       ]
 
   -- ---- the order
 
   pub ready_in_order : (made : List Bool) (k at : ℕ) → k < length order → at ≡ get_or order k 0 → slice_get compounds at ≡ Some false
-      → ((d : ℕ) → Contains (take k order) d → slice_get compounds d ≡ Some false → IsMarked made (get_or constants d 0)) → IsReadyAt made (get_or constants at 0)
+      → ((d : ℕ) → Contains (take k order) d → slice_get compounds d ≡ Some false → SaysYes made (get_or constants d 0)) → IsReadyAt made (get_or constants at 0)
   ready_in_order made k at low at_is flag_is made_before leaf leaf_is =
       let same : leaf ≡ Const at = same_Some leaf (Const at) (sym leaf_is ∙ constant_leaf compounds order constants leaves choices at flag_is) in
       subst (IsReadyFor compounds order constants leaves choices made) (sym same) ready
@@ -189,7 +191,7 @@ module _ (compounds : List Bool) (order constants : List ℕ) (leaves : List (Li
           some_apart e = cc
 
   -- behind the order every leaf can be made
-  pub ready_behind : (made : List Bool) (number : ℕ) → ((d : ℕ) → slice_get compounds d ≡ Some false → IsMarked made (get_or constants d 0)) → IsReadyAt made number
+  pub ready_behind : (made : List Bool) (number : ℕ) → ((d : ℕ) → slice_get compounds d ≡ Some false → SaysYes made (get_or constants d 0)) → IsReadyAt made number
   ready_behind made number all leaf leaf_is process process_is d among flag = all d flag
 
   pub all_in_order : (d : ℕ) → slice_get compounds d ≡ Some false → Contains order d
@@ -197,7 +199,7 @@ module _ (compounds : List Bool) (order constants : List ℕ) (leaves : List (Li
       let within : d < length choices.bodies = let h = slice_get_within compounds d false flag_is in let e = choices.one_each in omega arith in
       choices.in_order.each d within
 
-  pub are_performed : (made : List Bool) (lists : List (List Performed)) → Sound made lists → length lists ≡ length leaves → ((n : ℕ) → n < length leaves → IsMarked made n)
+  pub are_performed : (made : List Bool) (lists : List (List Performed)) → Sound made lists → length lists ≡ length leaves → ((n : ℕ) → n < length leaves → SaysYes made n)
       → ArePerformed file choices.bodies (written choices) lists
   are_performed made lists sound sizes all = record {
     one_each = sizes ∙ choices.operands.one_each;
@@ -216,20 +218,20 @@ unset_at compounds at low unset = slice_get-get_or compounds at false low ∙ ap
 
 -- the constants so far and one more
 pub ready_more : (compounds : List Bool) (order constants : List ℕ) (made made2 : List Bool) (k : ℕ) → k < length order
-    → ((n : ℕ) → IsMarked made n → IsMarked made2 n) → (slice_get compounds (get_or order k 0) ≡ Some false → IsMarked made2 (get_or constants (get_or order k 0) 0))
-    → ((d : ℕ) → Contains (take k order) d → slice_get compounds d ≡ Some false → IsMarked made (get_or constants d 0))
-    → (d : ℕ) → Contains (take (k + 1) order) d → slice_get compounds d ≡ Some false → IsMarked made2 (get_or constants d 0)
+    → ((n : ℕ) → SaysYes made n → SaysYes made2 n) → (slice_get compounds (get_or order k 0) ≡ Some false → SaysYes made2 (get_or constants (get_or order k 0) 0))
+    → ((d : ℕ) → Contains (take k order) d → slice_get compounds d ≡ Some false → SaysYes made (get_or constants d 0))
+    → (d : ℕ) → Contains (take (k + 1) order) d → slice_get compounds d ≡ Some false → SaysYes made2 (get_or constants d 0)
 ready_more compounds order constants made made2 k low still here before d among flag_is =
     elim (Contains-push_cases (take k order) (get_or order k 0) d (subst (λ xs. Contains xs d) (take_more order k 0 low) among)) [
       | inl there ↦ still (get_or constants d 0) (before d there flag_is)
-      | inr same ↦ subst (λ n. IsMarked made2 (get_or constants n 0)) same (here (ap (slice_get compounds) same ∙ flag_is))
+      | inr same ↦ subst (λ n. SaysYes made2 (get_or constants n 0)) same (here (ap (slice_get compounds) same ∙ flag_is))
     ]
 
 pub set_apart_from : (compounds : List Bool) (at : ℕ) → get_or compounds at false ≡ true → slice_get compounds at ≡ Some false → ⊥
 set_apart_from compounds at marked flag_is = false≢true (sym (get_or_from_slice_get compounds at false false flag_is) ∙ marked)
 
-pub made_more : (made made2 : List Bool) (number : ℕ) → ((n : ℕ) → IsMarked made n → IsMarked made2 n) → IsMarked made2 number → ((n : ℕ) → n < number → IsMarked made n) → (n : ℕ) → n < number + 1 → IsMarked made2 n
+pub made_more : (made made2 : List Bool) (number : ℕ) → ((n : ℕ) → SaysYes made n → SaysYes made2 n) → SaysYes made2 number → ((n : ℕ) → n < number → SaysYes made n) → (n : ℕ) → n < number + 1 → SaysYes made2 n
 made_more made made2 number still here before n low = elim (cases_eq n number) [
-  | inl same ↦ subst (IsMarked made2) (sym same) here
+  | inl same ↦ subst (SaysYes made2) (sym same) here
   | inr apart ↦ still n (before n (omega arith))
 ]

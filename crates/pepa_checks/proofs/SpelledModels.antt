@@ -4,17 +4,16 @@ use Rattle.std.proofs.lemmas.Option.{same_Some}
 use Rattle.pepa_lexer.specs.TokenLists.{IsTokens}
 use Rattle.pepa_lexer.specs.declared.kinds.Token.{Token}
 use Rattle.pepa_reader.specs.Grammar.{File, file_spelled}
-use Rattle.pepa_reader.specs.Terminals.{terminals}
+use Rattle.token_grammar.specs.Terminals.{terminals, name_at}
 use Rattle.pepa_reader.specs.Trees.{RateNode, ProcessNode, ConstantAt, PrefixAt, ChoiceOf, CoopAt, HideOf, ProcessLineNode, file_tree}
 use Rattle.pepa_model.specs.Derivation.{Among}
 use Rattle.pepa_model.specs.Expression.{Const, LeafShape, ConstShape, Definition}
 use Rattle.pepa_model.specs.Spelling.{IsConstantName, IsActionName, IsWrittenRate, HasWrittenRates, HasWrittenShape, HasWrittenDefinition}
 use Rattle.pepa_model.specs.PepaModel.{AreDistinct}
-use Rattle.pepa_resolver.specs.Parts.{name_at, process_ats, processes_of}
+use Rattle.pepa_resolver.specs.Parts.{process_ats, processes_of}
 use Rattle.pepa_resolver.specs.Named.{Naming, named}
 use Rattle.pepa_resolver.specs.Numbers.{words_in, first_places, actions_of, constants_of}
-use Rattle.pepa_resolver.proofs.Findings.{contains_cases, contains_map_from}
-use Rattle.pepa_resolver.proofs.Bodies.{contains_from_get}
+use Rattle.node_orders.proofs.Elements.{contains_cases, contains_map_from, contains_from_get}
 use Rattle.pepa_checks.specs.Outline.{is_compound, expression_in, shape_in, definition_in, definitions_in}
 use Rattle.pepa_checks.proofs.ModelNames.{distinct_places, first_no_more}
 use Rattle.pepa_checks.proofs.TextNames.{constant_name, action_name}

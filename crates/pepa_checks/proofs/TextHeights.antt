@@ -5,19 +5,18 @@ use Rattle.std.proofs.lemmas.List.Elements.{Contains-append_cases}
 use Rattle.pepa_rates.specs.declared.rate.Rate.{Rate}
 use Rattle.pepa_lexer.specs.declared.kinds.Token.{Token}
 use Rattle.pepa_lexer.specs.declared.kinds.Sign.TheVariants.{Semicolon, Closing, Dot, Plus, Slash, OpeningBrace, ClosingBrace}
-use Rattle.pepa_reader.specs.declared.terminal.Terminal.{Terminal}
-use Rattle.pepa_reader.specs.declared.terminal.Terminal.TheVariants.{Mark}
+use Rattle.token_grammar.specs.declared.terminal.Terminal.{Terminal}
+use Rattle.token_grammar.specs.declared.terminal.Terminal.TheVariants.{Mark}
 use Rattle.pepa_reader.specs.declared.trees.FileTree.{FileTree}
-use Rattle.pepa_reader.specs.Terminals.{terminals}
+use Rattle.token_grammar.specs.Terminals.{terminals, name_at}
 use Rattle.pepa_reader.specs.Grammar as g
 use Rattle.pepa_reader.specs.Grammar.{words_spelled, rate_spelled, cooperation_spelled, process_spelled, choice_spelled, hidden_spelled, prefix_spelled, ending_spelled}
 use Rattle.pepa_reader.specs.Trees.{ProcessLineNode, FileNode, file_node_of, file_tree, process_tree, choice_tree, hidden_tree, prefix_tree, process_lines_from}
 use Rattle.pepa_reader.specs.FileAnswers.{most_tokens, AreShort, IsFileTree}
-use Rattle.pepa_resolver.specs.Parts.{name_at}
 use Rattle.pepa_resolver.specs.Named.{Named, NamedConstant, NamedPrefix, NamedChoice, NamedCoop, NamedHide, Naming, named}
 use Rattle.pepa_resolver.specs.Numbers.{naming_of, named_bodies, named_system}
-use Rattle.pepa_resolver.specs.StructuredFiles.{IsNumbered}
-use Rattle.pepa_resolver.proofs.Findings.{no_element, one_element, contains_cases, contains_map_from}
+use Rattle.pepa_resolver.specs.ResolvedFiles.{IsNumberedFile}
+use Rattle.node_orders.proofs.Elements.{no_element, one_element, contains_cases, contains_map_from}
 use Rattle.pepa_checks.specs.Heights.{height_in, most_height, AreLow}
 
 pub some_height : (process : Named) → 1 ≤ height_in process
@@ -116,7 +115,7 @@ module _ (naming : Naming) where
       subst (λ (file : FileNode). AreLow (named_bodies naming file ++ named_system naming file ∷ [])) (sym is.tree_is) (file_low is.file is.short is.short_system)
 
 -- the bodies and the system of a file that was read are low
-pub numbered_low : (input : List ℕ) (tokens : List Token) (tree : FileTree) (values : List Rate) (bodies : List Named) (system : Named) → IsFileTree (terminals input tokens) tree → IsNumbered input tokens (file_node_of tree) values bodies system → AreLow (bodies ++ system ∷ [])
+pub numbered_low : (input : List ℕ) (tokens : List Token) (tree : FileTree) (values : List Rate) (bodies : List Named) (system : Named) → IsFileTree (terminals input tokens) tree → IsNumberedFile input tokens (file_node_of tree) values bodies system → AreLow (bodies ++ system ∷ [])
 numbered_low input tokens tree values bodies system is numbered =
     let naming = naming_of (name_at input tokens) tokens (file_node_of tree) values in
     subst (λ (ps : List Named). AreLow ps)

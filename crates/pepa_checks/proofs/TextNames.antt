@@ -6,18 +6,17 @@ use Rattle.std.specs.Cmp.Lexicographic.{pointwise, bytes_decides}
 use Rattle.std.proofs.lemmas.List.{take_at, drop_at, drop-drop}
 use Rattle.std.proofs.lemmas.Option.{slice_get-map, same_Some}
 use Rattle.pepa_lexer.specs.Bytes.{is_capital, begins}
-use Rattle.pepa_lexer.specs.Lexemes.{Lexeme, Blank, LineComment, BlockComment, Word, Whole, Pointed, Mark, spelled, IsLexeme, Leads}
+use Rattle.pepa_lexer.specs.Lexemes.{Lexeme, Blank, LineComment, BlockComment, Word, Whole, Pointed, Mark, spelled, IsLexeme, StartsWithLexemes}
 use Rattle.pepa_lexer.specs.TokenLists.{place_of, kind_of, token_at, tokens_along, end_of, IsTokens}
 use Rattle.pepa_lexer.specs.declared.kinds.Kind.{Kind}
 use Rattle.pepa_lexer.specs.declared.kinds.Kind.TheVariants as kinds
 use Rattle.pepa_lexer.specs.declared.kinds.Token.{Token}
 use Rattle.pepa_reader.specs.Grammar as g
 use Rattle.pepa_reader.specs.Grammar.{word_spelled}
-use Rattle.pepa_reader.specs.declared.terminal.Terminal.{Terminal}
-use Rattle.pepa_reader.specs.declared.terminal.Terminal.TheVariants as terminal
-use Rattle.pepa_reader.specs.Terminals.{text_of, terminal_from, terminal_of, terminals}
+use Rattle.token_grammar.specs.declared.terminal.Terminal.{Terminal}
+use Rattle.token_grammar.specs.declared.terminal.Terminal.TheVariants as terminal
+use Rattle.token_grammar.specs.Terminals.{text_of, terminal_from, terminal_of, terminals, bytes_of, name_at}
 use Rattle.pepa_model.specs.Spelling.{IsShortWord, IsConstantName, IsActionName}
-use Rattle.pepa_resolver.specs.Parts.{bytes_of, name_at}
 
 -- ---- tokens as lexemes
 
@@ -40,7 +39,7 @@ text_at input front more at e =
 rest_at : (input front more : List ℕ) (at : ℕ) → drop at input ≡ front ++ more → drop (at + length front) input ≡ more
 rest_at input front more at e = sym (drop-drop (length front) at input) ∙ ap (drop (length front)) e ∙ drop_at front more (length front) refl
 
-all_lexed : (input : List ℕ) (lexemes : List Lexeme) (bytes : List ℕ) (at : ℕ) → drop at input ≡ bytes → Leads lexemes bytes [] → AllByRecursion (IsLexedOrEnd input) (tokens_along input at lexemes ++ end_of input)
+all_lexed : (input : List ℕ) (lexemes : List Lexeme) (bytes : List ℕ) (at : ℕ) → drop at input ≡ bytes → StartsWithLexemes lexemes bytes [] → AllByRecursion (IsLexedOrEnd input) (tokens_along input at lexemes ++ end_of input)
 all_lexed input [] bytes at e leads = (inr refl, tt)
 all_lexed input (lexeme ∷ lexemes) bytes at e leads =
     let whole : drop at input ≡ spelled lexeme ++ leads.0 = e ∙ leads.1 in

@@ -14,7 +14,7 @@ use Rattle.pepa_checks.specs.declared.expressions.Candidate.{Candidate}
 use Rattle.pepa_checks.specs.declared.expressions.Walk.{Walk}
 use Rattle.pepa_checks.specs.Outline.{expression_in}
 use Rattle.pepa_checks.specs.Activities.{written_followers}
-use Rattle.pepa_checks.specs.NodeTables.{rate_by, expressions_by, Builds, IsNodeTable, Grows, Has}
+use Rattle.pepa_checks.specs.NodeTables.{rate_by, expressions_by, Builds, IsNodeTable, ExtendsNodes, Has}
 use Rattle.pepa_checks.specs.Candidates.{AreOperands, IsCandidate, Stands, Walked}
 use Rattle.pepa_checks.proofs.ListReads.{read_more}
 use Rattle.pepa_checks.proofs.NodeSteps.{grows_again}
@@ -32,20 +32,20 @@ operands_more es more (NamedChoice left right) operands h = (h.0, h.1, operands_
 operands_more es more (NamedCoop left right set) operands h = h
 operands_more es more (NamedHide inner set) operands h = h
 
-pub operands_grown : (es fs : List Expression) (process : Named) (operands : List Summand) → Grows es fs → AreOperands es process operands → AreOperands fs process operands
+pub operands_grown : (es fs : List Expression) (process : Named) (operands : List Summand) → ExtendsNodes es fs → AreOperands es process operands → AreOperands fs process operands
 operands_grown es fs process operands grows h = subst (λ gs. AreOperands gs process operands) (sym grows.1) (operands_more es grows.0 process operands h)
 
-pub number_grown : (es fs : List Expression) (n : ℕ) (e : Expression) → Grows es fs → slice_get es n ≡ Some e → slice_get fs n ≡ Some e
+pub number_grown : (es fs : List Expression) (n : ℕ) (e : Expression) → ExtendsNodes es fs → slice_get es n ≡ Some e → slice_get fs n ≡ Some e
 number_grown es fs n e grows h = subst (λ gs. slice_get gs n ≡ Some e) (sym grows.1) (read_more es grows.0 n e h)
 
-pub candidate_grown : (es fs : List Expression) (process : Named) (candidate : Candidate) → Grows es fs → IsCandidate es process candidate → IsCandidate fs process candidate
+pub candidate_grown : (es fs : List Expression) (process : Named) (candidate : Candidate) → ExtendsNodes es fs → IsCandidate es process candidate → IsCandidate fs process candidate
 candidate_grown es fs process candidate grows h = record {
   process_is = h.process_is;
   number_is = number_grown es fs candidate.number (expression_in process) grows h.number_is;
   operands_are = operands_grown es fs process candidate.operands grows h.operands_are;
 }
 
-pub candidates_grown : (es fs : List Expression) (written : List Named) (candidates : List Candidate) → Grows es fs → AllZip (IsCandidate es) written candidates → AllZip (IsCandidate fs) written candidates
+pub candidates_grown : (es fs : List Expression) (written : List Named) (candidates : List Candidate) → ExtendsNodes es fs → AllZip (IsCandidate es) written candidates → AllZip (IsCandidate fs) written candidates
 candidates_grown es fs [] [] grows h = h
 candidates_grown es fs [] (candidate ∷ candidates) grows h = h
 candidates_grown es fs (process ∷ written) [] grows h = h

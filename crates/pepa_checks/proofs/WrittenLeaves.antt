@@ -4,9 +4,9 @@ use Rattle.std.specs.List.{Contains}
 use Rattle.std.proofs.lemmas.List.Elements.{Contains-append_left, Contains-append_right, Contains-push}
 use Rattle.pepa_model.specs.Derivation.{Among}
 use Rattle.pepa_resolver.specs.Named.{Named, NamedConstant, NamedPrefix, NamedChoice, NamedCoop, NamedHide, first_at, sequential_parts}
-use Rattle.pepa_resolver.specs.Structure.{has_system, IsCompound, NotSequentialAt}
+use Rattle.pepa_checks.specs.Structure.{has_system, IsCompoundConstant, NotSequentialAt}
 use Rattle.pepa_resolver.specs.Faults.{HasNone}
-use Rattle.pepa_resolver.specs.Graphs.{IsTableOf}
+use Rattle.node_orders.specs.Graphs.{IsTableOf}
 use Rattle.pepa_checks.specs.Outline.{is_compound}
 use Rattle.pepa_checks.specs.Activities.{written_followers, written_components, written_in, written_leaves}
 use Rattle.pepa_checks.proofs.ListReads.{true_or_false}
@@ -85,7 +85,7 @@ module _ (compounds : List Bool) where
     | inr b ↦ lines_plain flags bodies p (λ other among. each other (contains_tail body bodies other among)) b
   ]
 
-  module _ (bodies : List Named) (system : Named) (table : IsTableOf (IsCompound bodies) compounds) (none : HasNone (NotSequentialAt bodies system)) where
+  module _ (bodies : List Named) (system : Named) (table : IsTableOf (IsCompoundConstant bodies) compounds) (none : HasNone (NotSequentialAt bodies system)) where
     parts_plain : (process : Named) → Contains (bodies ++ system ∷ []) process → HasPlainParts process
     parts_plain process there part among = record {
       plain = elim (true_or_false (has_system part)) [

@@ -14,8 +14,8 @@ use Rattle.pepa_lexer.specs.declared.kinds.Sign.TheVariants.{Plus, Minus, Star, 
 use Rattle.pepa_lexer.specs.declared.kinds.Token.{Token}
 use Rattle.pepa_reader.specs.Trees.{RateNode, NumberAt, NameAt, TopAt, OpAt, BracketOf, RateLineNode}
 use Rattle.pepa_model.specs.Spelling.{IsWrittenRate}
-use Rattle.pepa_resolver.specs.Outcomes.{Outcome, Good, NoValue, BadAt, is_fine, fine_at, kind_value, number_value, sign_value, op_kind_value, op_value, inner_name, combined, sum_outcome, active_outcome, weight_outcome, rate_outcome, value_of, looked_up, AreOutcomes}
-use Rattle.pepa_resolver.specs.Numbers.{rate_in}
+use Rattle.pepa_resolver.specs.Outcomes.{Outcome, Good, NoValue, BadAt, is_fine, fine_at, kind_value, number_value, sign_value, op_kind_value, op_value, inner_name, combined_outcome, sum_outcome, active_outcome, weight_outcome, rate_outcome, value_of, looked_up, AreOutcomes}
+use Rattle.pepa_resolver.specs.Numbers.{rate_of_outcome}
 
 -- ---- fractions
 
@@ -122,7 +122,7 @@ inner_written at NoValue q each e = absurd cc
 inner_written at (BadAt i) q each e = absurd cc
 
 module _ (tokens : List Token) (named : ℕ → Outcome Rate) (each : AreNamed named) where
-  combined_written : (at : ℕ) (x y : Outcome Fraction) (r : Fraction) → ((q : Fraction) → x ≡ Good q → IsProper q) → ((q : Fraction) → y ≡ Good q → IsProper q) → combined tokens at x y ≡ Good r → IsProper r
+  combined_written : (at : ℕ) (x y : Outcome Fraction) (r : Fraction) → ((q : Fraction) → x ≡ Good q → IsProper q) → ((q : Fraction) → y ≡ Good q → IsProper q) → combined_outcome tokens at x y ≡ Good r → IsProper r
   combined_written at (Good p) (Good q) r left right e = good_fine at (op_value (slice_get tokens at) p q) r (op_lowest p q (left p refl) (right q refl) (slice_get tokens at)) e
   combined_written at (Good p) NoValue r left right e = absurd cc
   combined_written at (Good p) (BadAt i) r left right e = absurd cc
@@ -210,10 +210,10 @@ module _ (tokens : List Token) (name : ℕ → List ℕ) (lines : List RateLineN
   lines_written k rate at = below (suc k) k rate (omega arith) at
 
   -- the rate of an activity
-  pub activity_written : (node : RateNode) → IsWrittenRate (rate_in (rate_outcome tokens (looked_up name lines outcomes) node))
+  pub activity_written : (node : RateNode) → IsWrittenRate (rate_of_outcome (rate_outcome tokens (looked_up name lines outcomes) node))
   activity_written node = by (rate_outcome tokens (looked_up name lines outcomes) node) (rate_written tokens (looked_up name lines outcomes) (looked_written name lines outcomes lines_written) node)
     where
-      by : (outcome : Outcome Rate) → ((rate : Rate) → outcome ≡ Good rate → IsWrittenRate rate) → IsWrittenRate (rate_in outcome)
+      by : (outcome : Outcome Rate) → ((rate : Rate) → outcome ≡ Good rate → IsWrittenRate rate) → IsWrittenRate (rate_of_outcome outcome)
       by (Good rate) each = each rate refl
       by NoValue each = (one_proper, refl)
       by (BadAt i) each = (one_proper, refl)

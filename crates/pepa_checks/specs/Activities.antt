@@ -3,7 +3,7 @@ use Rattle.std.specs.Prelude.{◌≡◌, ℕ, ◌<◌, Bool, if◌then◌else◌
 use Rattle.pepa_model.specs.Expression.{Expression, Const}
 use Rattle.pepa_model.specs.Derivation.{Transition, Among}
 use Rattle.pepa_model.specs.Opened.{Opened, OpenPrefix, OpenChoice, OpenConst, Opens, moves}
-use Rattle.pepa_model.specs.Leaves.{same_expression, place_of}
+use Rattle.pepa_model.specs.Leaves.{same_expression, position_of}
 use Rattle.pepa_model.specs.PepaModel.{IsMixedAt}
 use Rattle.pepa_model.specs.declared.term.Activity.{Activity}
 use Rattle.pepa_resolver.specs.Named.{Named, NamedConstant, NamedPrefix, NamedChoice, NamedCoop, NamedHide}
@@ -11,7 +11,7 @@ use Rattle.pepa_checks.specs.Outline.{is_compound, expression_in, Outline}
 
 -- the number of a leaf
 abbrev pub leaf_number : List Expression → Expression → ℕ
-leaf_number leaves e = place_of same_expression leaves e
+leaf_number leaves e = position_of same_expression leaves e
 
 -- a transition as an activity, with the number of the leaf that follows
 abbrev pub activity_in : List Expression → Transition → Activity
@@ -22,8 +22,8 @@ abbrev pub activities_in : List Expression → Opened → List Activity
 activities_in leaves opened = map (activity_in leaves) (moves opened)
 
 -- the activities of a leaf
-abbrev pub HasActivities : Outline → Expression → List Activity → Type 0
-HasActivities outline e activities = (opened : Opened) × Opens outline.definitions e opened × (activities ≡ activities_in outline.leaves opened)
+abbrev pub AreActivitiesOf : Outline → Expression → List Activity → Type 0
+AreActivitiesOf outline e activities = (opened : Opened) × Opens outline.definitions e opened × (activities ≡ activities_in outline.leaves opened)
 
 -- ---- where they are written
 

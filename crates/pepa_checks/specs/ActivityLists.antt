@@ -4,13 +4,11 @@ use Rattle.std.specs.List.{AllZip}
 use Rattle.pepa_model.specs.Opened.{Opened, Opens, moves}
 use Rattle.pepa_resolver.specs.Named.{Named}
 use Rattle.pepa_resolver.specs.Faults.{HasNone}
-use Rattle.pepa_resolver.specs.Structure.{IsCompound, NotSequentialAt, UnguardedEdge}
-use Rattle.pepa_resolver.specs.Graphs.{IsTableOf, IsOrder, IsMarked}
+use Rattle.pepa_checks.specs.Structure.{IsCompoundConstant, NotSequentialAt, UnguardedEdge}
+use Rattle.node_orders.specs.Graphs.{IsTableOf, IsOrder, SaysYes}
 use Rattle.pepa_checks.specs.declared.summand.Summand.{Summand}
 use Rattle.pepa_checks.specs.declared.summand.Summand.TheVariants.{Constant, Activity}
 use Rattle.pepa_checks.specs.declared.summand.Performed.{Performed}
-use Rattle.pepa_checks.specs.declared.limit_end.LimitEnd.{LimitEnd}
-use Rattle.pepa_checks.specs.declared.limit_end.LimitEnd.TheVariants.{TooMany, Memory}
 use Rattle.pepa_checks.specs.declared.activities.Lists.{Lists}
 use Rattle.pepa_checks.specs.Outline.{Outline, outline_with}
 use Rattle.pepa_checks.specs.Activities.{written_leaves}
@@ -22,15 +20,15 @@ pub record LeafChoices (compounds : List Bool) (order constants : List ℕ) (lea
   pub system : Named
   pub sets : List (List ℕ)
   pub one_each : length compounds ≡ length bodies
-  pub table : IsTableOf (IsCompound bodies) compounds
+  pub table : IsTableOf (IsCompoundConstant bodies) compounds
   pub sequential : HasNone (NotSequentialAt bodies system)
   pub in_order : IsOrder (UnguardedEdge bodies) (length bodies) order
   pub constant_leaves : AreConstantLeaves (outline_with sets compounds bodies system) compounds constants
   pub operands : AreLeafSummands (outline_with sets compounds bodies system) bodies (written_leaves compounds bodies system) leaves
 
 -- its outline
-abbrev pub outline : {compounds : List Bool} {order constants : List ℕ} {leaves : List (List Summand)} → LeafChoices compounds order constants leaves → Outline
-outline {compounds} choices = outline_with choices.sets compounds choices.bodies choices.system
+abbrev pub choices_outline : {compounds : List Bool} {order constants : List ℕ} {leaves : List (List Summand)} → LeafChoices compounds order constants leaves → Outline
+choices_outline {compounds} choices = outline_with choices.sets compounds choices.bodies choices.system
 
 -- its processes whose expressions are leaves
 abbrev pub written : {compounds : List Bool} {order constants : List ℕ} {leaves : List (List Summand)} → LeafChoices compounds order constants leaves → List Named
@@ -38,13 +36,8 @@ written {compounds} choices = written_leaves compounds choices.bodies choices.sy
 
 -- the leaves have too many activities, however they open
 abbrev pub OpensIntoMany : Outline → Type 0
-OpensIntoMany outline =
-    (opened : List Opened) → AllZip (Opens outline.definitions) outline.leaves opened → 65535 < sum_by (λ tree. length (moves tree)) opened
-
--- why there are no lists
-abbrev pub IsActivitiesEnd : {compounds : List Bool} {order constants : List ℕ} {leaves : List (List Summand)} → LeafChoices compounds order constants leaves → LimitEnd → Type 0
-IsActivitiesEnd choices TooMany = OpensIntoMany (outline choices)
-IsActivitiesEnd choices Memory = Unit {0}
+OpensIntoMany choices_outline =
+    (opened : List Opened) → AllZip (Opens choices_outline.definitions) choices_outline.leaves opened → 65535 < sum_by (λ tree. length (moves tree)) opened
 
 -- ---- list by list
 
@@ -62,25 +55,19 @@ performed_by constants lists (Activity at action rate target) =
 abbrev pub performed_in : List ℕ → List (List Performed) → List Summand → List Performed
 performed_in constants lists operands = flat_map (performed_by constants lists) operands
 
--- the room isn't enough for this
-abbrev pub IsOutOfRoom : List Performed → ℕ → LimitEnd → Type 0
-IsOutOfRoom list room TooMany = room < length list
-IsOutOfRoom list room Memory = Unit {0}
-
 -- what holds of the lists while they are made
-pub record AreKept (lists : Lists) : Type 0 where
+pub record AreSoFar (lists : Lists) : Type 0 where
   pub sizes : length lists.made ≡ length lists.lists
   pub total : lists.total ≡ sum_by length lists.lists
   pub few : lists.total ≤ 65535
-  pub empty : (number : ℕ) → ¬ IsMarked lists.made number → slice_index_or lists.lists number [] ≡ []
+  pub empty : (number : ℕ) → ¬ SaysYes lists.made number → slice_index_or lists.lists number [] ≡ []
 
 -- the list of a leaf is made, unless it was
 abbrev pub MakesList : List ℕ → List Summand → ℕ → Lists → Lists → Type 0
 MakesList constants operands number before after =
-    (IsMarked before.made number × (after.made ≡ before.made) × (after.lists ≡ before.lists))
+    (SaysYes before.made number × (after.made ≡ before.made) × (after.lists ≡ before.lists))
     ⊎ ((after.made ≡ slice_set before.made number true) × (after.lists ≡ slice_set before.lists number (performed_in constants before.lists operands)))
 
 -- with the list of this leaf there would be too many
-abbrev pub PassesMost : List ℕ → List Summand → ℕ → Lists → LimitEnd → Type 0
-PassesMost constants operands number before TooMany = 65535 < sum_by length (slice_set before.lists number (performed_in constants before.lists operands))
-PassesMost constants operands number before Memory = Unit {0}
+abbrev pub PassesMost : List ℕ → List Summand → ℕ → Lists → Type 0
+PassesMost constants operands number before = 65535 < sum_by length (slice_set before.lists number (performed_in constants before.lists operands))

@@ -3,8 +3,8 @@ use Rattle.std.specs.Prelude.{◌≡◌, ℕ, suc, ◌≤◌, Bool, true, false,
 use Rattle.pepa_resolver.specs.Named.{Named, NamedConstant}
 use Rattle.pepa_resolver.specs.NamedTypes.{HasConstantsBelow}
 use Rattle.pepa_resolver.specs.Faults.{HasNone}
-use Rattle.pepa_resolver.specs.Structure.{IsCompound, NotSequentialAt}
-use Rattle.pepa_resolver.specs.Graphs.{IsTableOf}
+use Rattle.pepa_checks.specs.Structure.{IsCompoundConstant, NotSequentialAt}
+use Rattle.node_orders.specs.Graphs.{IsTableOf}
 use Rattle.pepa_checks.specs.Activities.{written_leaves}
 use Rattle.pepa_checks.specs.Heights.{AreLow}
 
@@ -22,7 +22,7 @@ leaf_processes compounds bodies system = constant_names 0 compounds ++ written_l
 -- has to be sequential is, and that there are not too many, and none too high
 pub record IsBuilt (compounds : List Bool) (bodies : List Named) (system : Named) : Type 0 where
   pub one_each : length compounds ≡ length bodies
-  pub table : IsTableOf (IsCompound bodies) compounds
+  pub table : IsTableOf (IsCompoundConstant bodies) compounds
   pub sequential : HasNone (NotSequentialAt bodies system)
   pub known : HasConstantsBelow (length bodies) (bodies ++ system ∷ [])
   pub few : length bodies ≤ 1024

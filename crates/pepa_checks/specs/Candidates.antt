@@ -4,7 +4,7 @@ use Rattle.std.specs.List.{AllZip}
 use Rattle.pepa_model.specs.Expression.{Expression, Const}
 use Rattle.pepa_resolver.specs.Named.{Named, NamedConstant, NamedPrefix, NamedChoice, NamedCoop, NamedHide}
 use Rattle.pepa_resolver.specs.NamedTypes.{named_of}
-use Rattle.pepa_resolver.specs.Structure.{has_system}
+use Rattle.pepa_checks.specs.Structure.{has_system}
 use Rattle.pepa_checks.specs.declared.summand.Summand.{Summand}
 use Rattle.pepa_checks.specs.declared.summand.Summand.TheVariants.{Constant, Activity}
 use Rattle.pepa_checks.specs.declared.expressions.Candidate.{Candidate}
@@ -13,7 +13,7 @@ use Rattle.pepa_checks.specs.declared.expressions.Head.{Head}
 use Rattle.pepa_checks.specs.declared.expressions.FileWalk.{FileWalk}
 use Rattle.pepa_checks.specs.Outline.{expression_in}
 use Rattle.pepa_checks.specs.Activities.{written_followers, written_components, written_in, written_leaves}
-use Rattle.pepa_checks.specs.NodeTables.{expressions_by, IsNodeTable, Grows, Has}
+use Rattle.pepa_checks.specs.NodeTables.{expressions_by, IsNodeTable, ExtendsNodes, Has}
 
 -- the operands of a sequential process's choice, the last one first, where an activity has the place of what follows in a list
 -- of expressions
@@ -49,7 +49,7 @@ pub record Walked (old new : Walk) (before after : List Summand) (written : List
 -- the candidates came to stand for these processes
 pub record Put (old new : Walk) (written : List Named) : Type 0 where
   pub stands : Stands new written
-  pub grows : Grows (expressions_by old.nodes.keys) (expressions_by new.nodes.keys)
+  pub grows : ExtendsNodes (expressions_by old.nodes.keys) (expressions_by new.nodes.keys)
 
 -- a part that has to be sequential has a cooperation or a hiding in it
 abbrev pub has_system_part : Named → Bool
@@ -60,29 +60,29 @@ has_system_part (NamedCoop left right set) = has_system_part left || has_system_
 has_system_part (NamedHide inner set) = has_system_part inner
 
 -- a sequential constant and its body
-pub record Line : Type 0 where
+pub record ConstantLine : Type 0 where
   pub constant : ℕ
   pub body : Named
 
 -- the sequential constants from this number on, where the flags say which constants are compound
-abbrev pub sequential_lines : ℕ → List Bool → List Named → List Line
+abbrev pub sequential_lines : ℕ → List Bool → List Named → List ConstantLine
 sequential_lines c [] bodies = []
 sequential_lines c (flag ∷ flags) [] = []
 sequential_lines c (true ∷ flags) (body ∷ bodies) = sequential_lines (suc c) flags bodies
 sequential_lines c (false ∷ flags) (body ∷ bodies) = record { constant = c; body = body } ∷ sequential_lines (suc c) flags bodies
 
 -- what was found of a sequential constant
-pub record IsHead (es : List Expression) (line : Line) (head : Head) : Type 0 where
+pub record IsHead (es : List Expression) (line : ConstantLine) (head : Head) : Type 0 where
   pub constant_is : head.constant ≡ line.constant
   pub number_is : slice_get es head.number ≡ Some (Const line.constant)
   pub operands_are : AreOperands es line.body head.operands
 
 -- the heads are those of the lines, the last one first
-abbrev pub AreHeads : Walk → List Line → List Head → Type 0
+abbrev pub AreHeads : Walk → List ConstantLine → List Head → Type 0
 AreHeads walk lines heads = AllZip (IsHead (expressions_by walk.nodes.keys)) lines (reverse heads)
 
 -- a sequential constant was walked
-pub record LineWalked (new : Walk) (heads : List Head) (written : List Named) (lines : List Line) (line : Line) : Type 0 where
+pub record LineWalked (new : Walk) (heads : List Head) (written : List Named) (lines : List ConstantLine) (line : ConstantLine) : Type 0 where
   pub stands : Stands new (written_followers line.body ++ written)
   pub heads_are : AreHeads new (line ∷ lines) heads
 

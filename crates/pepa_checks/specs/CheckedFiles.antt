@@ -6,23 +6,23 @@ use Rattle.pepa_lexer.specs.declared.kinds.Token.{Token}
 use Rattle.pepa_lexer.specs.declared.kinds.Place.{Place}
 use Rattle.pepa_lexer.specs.TokenLists.{IsTokens}
 use Rattle.pepa_reader.specs.Grammar.{File, System, item_spelled, file_spelled}
-use Rattle.pepa_reader.specs.Terminals.{terminals}
+use Rattle.token_grammar.specs.Terminals.{terminals, name_at}
 use Rattle.pepa_reader.specs.Trees.{FileNode, file_tree}
 use Rattle.pepa_reader.specs.FileAnswers.{AreShort, most_tokens}
 use Rattle.pepa_model.specs.PepaModel.{PepaModel}
-use Rattle.pepa_resolver.specs.declared.cause.CheckCause.{CheckCause}
-use Rattle.pepa_resolver.specs.declared.cause.CheckCause.TheVariants.{TooMany, MixedChoice}
-use Rattle.pepa_resolver.specs.declared.cause.CheckEnd.{CheckEnd}
-use Rattle.pepa_resolver.specs.declared.cause.CheckEnd.TheVariants.{Refused, Memory}
-use Rattle.pepa_resolver.specs.Parts.{name_at}
+use Rattle.pepa_checks.specs.declared.cause.CheckCause.{CheckCause}
+use Rattle.pepa_checks.specs.declared.cause.CheckCause.TheVariants.{TooMany, MixedChoice}
+use Rattle.pepa_checks.specs.declared.cause.CheckEnd.{CheckEnd}
+use Rattle.pepa_checks.specs.declared.cause.CheckEnd.TheVariants.{Refused, Memory}
 use Rattle.pepa_resolver.specs.Named.{Named, first_at}
 use Rattle.pepa_resolver.specs.Numbers.{constants_of, actions_of}
-use Rattle.pepa_resolver.specs.Structure.{IsCompound}
-use Rattle.pepa_resolver.specs.Graphs.{IsTableOf}
-use Rattle.pepa_resolver.specs.StructureAnswers.{IsStructured}
-use Rattle.pepa_resolver.specs.StructuredFiles.{IsNumbered, IsStoppedFor}
+use Rattle.pepa_checks.specs.Structure.{IsCompoundConstant}
+use Rattle.node_orders.specs.Graphs.{IsTableOf}
+use Rattle.pepa_checks.specs.StructureAnswers.{IsStructured}
+use Rattle.pepa_resolver.specs.ResolvedFiles.{IsNumberedFile}
+use Rattle.pepa_checks.specs.StructuredFiles.{IsStoppedFor}
 use Rattle.pepa_checks.specs.Outline.{Outline, outline_of}
-use Rattle.pepa_checks.specs.Activities.{HasActivities, HasNoMixed, IsFirstMixed, written_leaves}
+use Rattle.pepa_checks.specs.Activities.{AreActivitiesOf, HasNoMixed, IsFirstMixed, written_leaves}
 use Rattle.pepa_checks.specs.Limits.{PassesLimit}
 
 -- a file without a fault up to its structure: its rates, what its constants stand for and its system, with numbers in place
@@ -31,11 +31,11 @@ pub record Sound (input : List ℕ) (tokens : List Token) (file : FileNode) : Ty
   pub values : List Rate
   pub bodies : List Named
   pub system : Named
-  pub numbered : IsNumbered input tokens file values bodies system
+  pub numbered : IsNumberedFile input tokens file values bodies system
   pub structured : IsStructured bodies system
   pub compounds : List Bool
   pub one_each : length compounds ≡ length bodies
-  pub table : IsTableOf (IsCompound bodies) compounds
+  pub table : IsTableOf (IsCompoundConstant bodies) compounds
 
 abbrev pub outline : {input : List ℕ} {tokens : List Token} {file : FileNode} → Sound input tokens file → Outline
 outline sound = outline_of sound.compounds sound.bodies sound.system
@@ -73,7 +73,7 @@ pub record IsModelOf (input : List ℕ) (tokens : List Token) (file : FileNode) 
   pub sets_are : m.sets ≡ (outline sound).sets
   pub leaves_are : m.leaves ≡ (outline sound).leaves
   pub system_is : m.system ≡ (outline sound).system
-  pub activities_are : AllZip (HasActivities (outline sound)) m.leaves m.activities
+  pub activities_are : AllZip (AreActivitiesOf (outline sound)) m.leaves m.activities
 
 -- what may be answered: the model, the first fault, or that memory ran out
 abbrev pub Checks : List ℕ → List Token → FileNode → Result PepaModel CheckEnd → Type 0
@@ -90,7 +90,7 @@ pub record IsTextOf (input : List ℕ) (m : PepaModel) : Type 0 where
   pub is_model : IsModelOf input tokens (file_tree file) m
 
 -- a text of a model that is short enough to be read, as each of its items is
-pub record Reads (input : List ℕ) (m : PepaModel) : Type 0 where
+pub record IsShortTextOf (input : List ℕ) (m : PepaModel) : Type 0 where
   pub text : IsTextOf input m
   pub short : length input ≤ 2 ^ 20
   pub short_lines : AreShort text.file.lines

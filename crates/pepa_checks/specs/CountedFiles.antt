@@ -1,11 +1,9 @@
 -- What counting a file's parts answers.
-use Rattle.std.specs.Prelude.{◌≡◌, ℕ, Bool, List, map, Result, Ok, Err}
+use Rattle.std.specs.Prelude.{◌≡◌, ℕ, Bool, List, map}
 use Rattle.indexmap.specs.IndexMap.{keys}
 use Rattle.pepa_model.specs.Expression.{expression_of}
 use Rattle.pepa_resolver.specs.Named.{Named}
 use Rattle.pepa_checks.specs.declared.counting.Counted.{Counted}
-use Rattle.pepa_checks.specs.declared.limit_end.LimitEnd.{LimitEnd}
-use Rattle.pepa_checks.specs.declared.limit_end.LimitEnd.TheVariants.{TooMany, Memory}
 use Rattle.pepa_checks.specs.Outline.{outline_of, sets_of}
 use Rattle.pepa_checks.specs.Activities.{written_leaves}
 use Rattle.pepa_checks.specs.Summands.{ArePerformed}
@@ -17,9 +15,3 @@ pub record IsCounted (actions : List (List ℕ)) (compounds : List Bool) (bodies
   pub sets_are : keys counted.sets ≡ sets_of bodies system
   pub leaves_are : map expression_of counted.leaves.expressions ≡ (outline_of compounds bodies system).leaves
   pub performed_are : ArePerformed (outline_of compounds bodies system) bodies (written_leaves compounds bodies system) counted.performed
-
--- what may be answered: what is counted, that a limit is passed, or that memory ran out
-abbrev pub Counts : List (List ℕ) → List Bool → List Named → Named → Result Counted LimitEnd → Type 0
-Counts actions compounds bodies system (Ok counted) = IsCounted actions compounds bodies system counted
-Counts actions compounds bodies system (Err TooMany) = PassesLimit actions (outline_of compounds bodies system)
-Counts actions compounds bodies system (Err Memory) = Unit {0}

@@ -41,19 +41,19 @@ pub record IsChoiceOf (text : Text) (leaf : Expression) (operands : List Summand
   pub operands_are : AreOperands text.nodes (chooser text.bodies process) operands
 
 -- the number is that of the expression's node
-abbrev pub IsNodeOf : List Expression → ℕ → Expression → Type 0
-IsNodeOf nodes number e = slice_get nodes number ≡ Some e
+abbrev pub IsNodeAt : List Expression → ℕ → Expression → Type 0
+IsNodeAt nodes number e = slice_get nodes number ≡ Some e
 
 -- the table has these leaves
 pub record IsLeafTable (text : Text) (leaves : List Expression) (table : LeafTable) : Type 0 where
-  pub numbers_are : AllZip (IsNodeOf text.nodes) table.numbers.keys leaves
+  pub numbers_are : AllZip (IsNodeAt text.nodes) table.numbers.keys leaves
   pub expressions_are : map expression_of table.expressions ≡ leaves
   pub operands_are : AllZip (IsChoiceOf text) leaves table.operands
 
 -- the expression of this node came into the table, if it wasn't there, with these operands
-abbrev pub Adds : LeafTable → LeafTable → ℕ → Expression → List Summand → Type 0
-Adds old new number e operands =
-    (text : Text) (leaves : List Expression) → IsNodeOf text.nodes number e → IsLeafTable text leaves old
+abbrev pub AddsNode : LeafTable → LeafTable → ℕ → Expression → List Summand → Type 0
+AddsNode old new number e operands =
+    (text : Text) (leaves : List Expression) → IsNodeAt text.nodes number e → IsLeafTable text leaves old
     → (list_any (same_expression e) leaves ≡ false → IsChoiceOf text e operands)
     → IsLeafTable text (with_expression leaves e) new
 
@@ -67,5 +67,5 @@ retargeted numbers (Constant c) = Constant c
 retargeted numbers (Activity at action rate node) = Activity at action rate (place_by numbers node)
 
 -- the operands from the first one on, with the numbers of leaves
-abbrev pub turned : List ℕ → List Summand → List Summand
-turned numbers operands = reverse (map (retargeted numbers) operands)
+abbrev pub renumbered : List ℕ → List Summand → List Summand
+renumbered numbers operands = reverse (map (retargeted numbers) operands)

@@ -1,10 +1,8 @@
 -- What finding the leaves of a file answers.
-use Rattle.std.specs.Prelude.{◌≡◌, ℕ, suc, ◌<◌, ◌≤◌, Bool, true, false, List, [], ◌∷◌, map, length, Result, Ok, Err}
+use Rattle.std.specs.Prelude.{◌≡◌, ℕ, suc, ◌<◌, ◌≤◌, Bool, true, false, List, [], ◌∷◌, map, length}
 use Rattle.pepa_model.specs.Expression.{expression_of}
 use Rattle.pepa_resolver.specs.Named.{Named}
 use Rattle.pepa_checks.specs.declared.leaves.Leaves.{Leaves}
-use Rattle.pepa_checks.specs.declared.limit_end.LimitEnd.{LimitEnd}
-use Rattle.pepa_checks.specs.declared.limit_end.LimitEnd.TheVariants.{TooMany, Memory}
 use Rattle.pepa_checks.specs.Outline.{Outline, outline_with}
 use Rattle.pepa_checks.specs.Activities.{written_leaves}
 use Rattle.pepa_checks.specs.Summands.{AreLeafSummands, AreConstantLeaves}
@@ -16,12 +14,14 @@ pub record AreLeaves (outline : Outline) (compounds : List Bool) (bodies written
   pub constants_are : AreConstantLeaves outline compounds found.constants
   pub few : length outline.leaves ≤ 65535
 
--- the leaves of a file, which don't depend on its sets, or that there are too many, or that memory ran out
-abbrev pub FindsLeaves : List Bool → List Named → Named → Result Leaves LimitEnd → Type 0
-FindsLeaves compounds bodies system (Ok found) =
+-- the leaves of a file, which don't depend on its sets
+abbrev pub IsLeavesOf : List Bool → List Named → Named → Leaves → Type 0
+IsLeavesOf compounds bodies system found =
     (sets : List (List ℕ)) → AreLeaves (outline_with sets compounds bodies system) compounds bodies (written_leaves compounds bodies system) found
-FindsLeaves compounds bodies system (Err TooMany) = (sets : List (List ℕ)) → 65535 < length (outline_with sets compounds bodies system).leaves
-FindsLeaves compounds bodies system (Err Memory) = Unit {0}
+
+-- there are too many of them
+abbrev pub LeavesAreTooMany : List Bool → List Named → Named → Type 0
+LeavesAreTooMany compounds bodies system = (sets : List (List ℕ)) → 65535 < length (outline_with sets compounds bodies system).leaves
 
 -- for each constant how many sequential ones stand in front of it, behind so many others
 abbrev pub numbers_from : ℕ → List Bool → List ℕ

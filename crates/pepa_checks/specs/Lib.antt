@@ -18,3 +18,8 @@ pub mod NodeLaws
 pub mod NodeTables
 pub mod Candidates
 pub mod LeafTables
+pub mod Structure
+pub mod Aliases
+pub mod StructureAnswers
+pub mod StructuredFiles
+pub mod FileViews

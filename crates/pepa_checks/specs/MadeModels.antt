@@ -3,7 +3,7 @@ use Rattle.std.specs.Prelude.{◌≡◌, ◌≤◌, length, map}
 use Rattle.indexmap.specs.IndexMap.{keys}
 use Rattle.pepa_model.specs.Expression.{expression_of, definition_of, shape_of}
 use Rattle.pepa_model.specs.PepaModel.{PepaModel, IsModel}
-use Rattle.pepa_resolver.specs.declared.file_structure.StructuredFile.{StructuredFile}
+use Rattle.pepa_checks.specs.declared.structured_file.StructuredFile.{StructuredFile}
 use Rattle.pepa_resolver.specs.NamedTypes.{named_of, bodies_of}
 use Rattle.pepa_checks.specs.declared.counting.Counted.{Counted}
 use Rattle.pepa_checks.specs.declared.model_making.NewParts.{NewParts}
@@ -13,21 +13,21 @@ use Rattle.pepa_checks.specs.Sequences.{HasSequentialParts, AreBodies}
 -- the model of these parts
 abbrev pub made_of : StructuredFile → Counted → PepaModel
 made_of file counted = record {
-  constants = keys file.names.constants;
-  actions = keys file.actions;
-  bodies = definitions_in file.compounds (keys counted.sets) file.compounds (bodies_of file.bodies);
+  constants = keys file.numbered.constants;
+  actions = keys file.numbered.actions;
+  bodies = definitions_in file.structure.compounds (keys counted.sets) file.structure.compounds (bodies_of file.numbered.bodies);
   leaves = map expression_of counted.leaves.expressions;
   activities = map (map (λ performed. performed.activity)) counted.performed;
   sets = keys counted.sets;
-  system = shape_in file.compounds (keys counted.sets) (named_of file.system);
+  system = shape_in file.structure.compounds (keys counted.sets) (named_of file.numbered.system);
 }
 
 -- a file whose parts make a model
-pub record IsReady (file : StructuredFile) (counted : Counted) : Type 0 where
+pub record MakesModel (file : StructuredFile) (counted : Counted) : Type 0 where
   pub few_sets : length (keys counted.sets) ≤ 1024
-  pub one_each : length file.compounds ≡ length file.bodies
-  pub bodies : AreBodies file.compounds (bodies_of file.bodies)
-  pub system : HasSequentialParts (named_of file.system)
+  pub one_each : length file.structure.compounds ≡ length file.numbered.bodies
+  pub bodies : AreBodies file.structure.compounds (bodies_of file.numbered.bodies)
+  pub system : HasSequentialParts (named_of file.numbered.system)
   pub is_model : IsModel (made_of file counted)
 
 -- the parts of that model that are made anew

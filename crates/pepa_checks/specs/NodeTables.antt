@@ -49,11 +49,11 @@ abbrev pub IsNodeTable : List Node → Type 0
 IsNodeTable nodes = AreNodes nodes (expressions_by nodes)
 
 -- the expressions stay where they were
-abbrev pub Grows : List Expression → List Expression → Type 0
-Grows old new = (more : List Expression) × (new ≡ old ++ more)
+abbrev pub ExtendsNodes : List Expression → List Expression → Type 0
+ExtendsNodes old new = (more : List Expression) × (new ≡ old ++ more)
 
 -- a table that has an expression at this number, and all that it had
 pub record Has (old new : List Node) (number : ℕ) (e : Expression) : Type 0 where
   pub table : IsNodeTable new
-  pub grows : Grows (expressions_by old) (expressions_by new)
+  pub grows : ExtendsNodes (expressions_by old) (expressions_by new)
   pub number_is : slice_get (expressions_by new) number ≡ Some e

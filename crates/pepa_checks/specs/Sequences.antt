@@ -1,7 +1,7 @@
 -- What of a process is sequential.
 use Rattle.std.specs.Prelude.{◌≡◌, ℕ, Bool, false, List, Some, slice_get, ⊤}
 use Rattle.pepa_resolver.specs.Named.{Named, NamedConstant, NamedPrefix, NamedChoice, NamedCoop, NamedHide}
-use Rattle.pepa_resolver.specs.Structure.{has_system}
+use Rattle.pepa_checks.specs.Structure.{has_system}
 
 -- the operands of its choices and what follows its activities have no cooperation and no hiding
 abbrev pub HasSequentialParts : Named → Type 0

@@ -24,12 +24,12 @@ most_of Leaves = 255
 most_of Nodes = 1023
 
 -- a count as it is kept: greater ones are not told from the one above the limit
-abbrev pub capped : Measure → ℕ → ℕ
-capped measure n = min n (most_of measure + 1)
+abbrev pub capped_count : Measure → ℕ → ℕ
+capped_count measure n = min n (most_of measure + 1)
 
 -- it is the size of the tree that the system expands into
 abbrev pub CountsSize : Measure → List Definition → Shape → ℕ → Type 0
-CountsSize measure definitions shape count = (tree : Expanded) → Expands definitions shape tree → count ≡ capped measure (measured measure tree)
+CountsSize measure definitions shape count = (tree : Expanded) → Expands definitions shape tree → count ≡ capped_count measure (measured measure tree)
 
 -- the table has the sizes of these constants, as far as they are compound
 abbrev pub HasCounts : Measure → List Definition → List ℕ → List ℕ → Type 0

@@ -1,10 +1,12 @@
 //! What each leaf performs.
-ghost use Rattle.std.specs.Prelude.{◌≡◌, ◌<◌, ◌≤◌, ◌++◌, [], false, zero, length, sum_by, replicate, slice_index, IfOk, OnOk, MatchResult};
+ghost use Rattle.std.specs.Prelude.{◌≡◌, ◌<◌, ◌≤◌, ◌++◌, [], false, zero, length, sum_by, replicate, slice_index, IfOk, OnOk};
+ghost use Rattle.fault_ends.specs.Answers.{OkOrFault};
 ghost use Rattle.pepa_checks.specs.Summands.{ArePerformed};
-ghost use Rattle.pepa_checks.specs.ActivityLists.{LeafChoices, outline, written, IsActivitiesEnd, performed_by, performed_in, IsOutOfRoom, AreKept, MakesList, PassesMost};
+ghost use Rattle.pepa_checks.specs.ActivityLists.{LeafChoices, choices_outline, written, OpensIntoMany, performed_by, performed_in, AreSoFar, MakesList, PassesMost};
 
-use crate::limit_end::LimitEnd;
+use crate::over_limit::OverLimit;
 use crate::summand::{Performed, Summand};
+use fault_ends::End;
 use pepa_model::Activity;
 use sqlite_items::Items;
 use std::alloc::{AllocError, Global};
@@ -39,7 +41,8 @@ fn add_operand(
     lists: &[Items<Performed>],
     operand: &Summand,
 ) -> Result<(), AllocError>
-    ensures { OnOk result (list.new.items ≡ list.old.items ++ performed_by constants.now lists.now operand.now) }
+    ensures { OnOk result (list.new.items
+        ≡ list.old.items ++ performed_by constants.now lists.now operand.now) }
 {
     match operand {
         Summand::Constant(constant) => {
@@ -71,15 +74,15 @@ fn list_of(
     lists: &[Items<Performed>],
     operands: &[Summand],
     room: usize,
-) -> Result<Items<Performed>, LimitEnd>
-    ensures { MatchResult result
+) -> Result<Items<Performed>, End<OverLimit>>
+    ensures { OkOrFault result
         (λ list. (list ≡ performed_in constants.now lists.now operands.now) × (length list ≤ room))
-        (IsOutOfRoom (performed_in constants.now lists.now operands.now) room) }
+        (λ _. room < length (performed_in constants.now lists.now operands.now)) }
 {
     let mut list = Vec::new(alloc);
     for operand in operands {
         if count_of(constants, lists, operand) > room - list.len() {
-            return Err(LimitEnd::TooMany);
+            return Err(End::Fault(OverLimit));
         }
         add_operand(&mut list, constants, lists, operand)?;
     }
@@ -100,7 +103,8 @@ struct Lists {
 impl Lists {
     /// The lists of so many leaves, none of them made.
     fn new(alloc: Global, count: usize) -> Result<Lists, AllocError>
-        ensures { IfOk result (λ it. (it.made ≡ replicate count false) × (it.lists ≡ replicate count []) × (it.total ≡ 0)) }
+        ensures { IfOk result (λ it. (it.made ≡ replicate count false) × (it.lists ≡ replicate count [])
+            × (it.total ≡ 0)) }
     {
         let mut lists = Items::new(alloc);
         for _made in 0..count {
@@ -121,12 +125,12 @@ impl Lists {
         constants: &[u32],
         operands: &[Summand],
         number: usize,
-    ) -> Result<(), LimitEnd>
-        requires kept { AreKept self.old }
+    ) -> Result<(), End<OverLimit>>
+        requires kept { AreSoFar self.old }
         requires within { number < length self.old.lists }
-        ensures { MatchResult result
-            (λ _. AreKept self.new × MakesList constants.now operands.now number self.old self.new)
-            (PassesMost constants.now operands.now number self.old) }
+        ensures { OkOrFault result
+            (λ _. AreSoFar self.new × MakesList constants.now operands.now number self.old self.new)
+            (λ _. PassesMost constants.now operands.now number self.old) }
     {
         if self.made.as_slice()[number] {
             return Ok(());
@@ -150,11 +154,12 @@ pub(crate) fn performed(
     order: &[u32],
     constants: &[u32],
     leaves: &[Items<Summand>],
-) -> Result<Items<Items<Performed>>, LimitEnd>
+) -> Result<Items<Items<Performed>>, End<OverLimit>>
     requires { LeafChoices compounds.now order.now constants.now leaves.now }
-    ensures performed { (choices : LeafChoices compounds.now order.now constants.now leaves.now) → MatchResult result
-        (ArePerformed (outline choices) choices.bodies (written choices))
-        (IsActivitiesEnd choices) }
+    ensures performed { (choices : LeafChoices compounds.now order.now constants.now leaves.now)
+        → OkOrFault result
+        (ArePerformed (choices_outline choices) choices.bodies (written choices))
+        (λ _. OpensIntoMany (choices_outline choices)) }
     ensures few { IfOk result (λ lists. sum_by length lists ≤ 65535) }
 {
     let mut lists = Lists::new(alloc, leaves.len())?;

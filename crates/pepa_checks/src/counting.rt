@@ -1,19 +1,15 @@
 //! The parts of a file that a model's limits are on.
-ghost use Rattle.std.specs.Prelude.{◌≡◌, length};
-ghost use Rattle.indexmap.specs.IndexMap.{keys};
-ghost use Rattle.pepa_resolver.specs.NamedTypes.{named_of, bodies_of};
-ghost use Rattle.pepa_resolver.specs.Structure.{CompoundEdge, UnguardedEdge};
-ghost use Rattle.pepa_resolver.specs.Graphs.{IsOrder};
-ghost use Rattle.pepa_checks.specs.Built.{IsBuilt};
-ghost use Rattle.pepa_checks.specs.CountedFiles.{Counts};
+ghost use Rattle.fault_ends.specs.Answers.{OkOrFault};
+ghost use Rattle.pepa_checks.specs.FileViews.{IsOrderedFile, IsCountedFile, IsPastLimit};
 
 use crate::activities::performed;
 use crate::leaves::{Leaves, leaves_of};
-use crate::limit_end::LimitEnd;
+use crate::over_limit::OverLimit;
 use crate::sets::{SetTable, set_table};
+use crate::structured_file::StructuredFile;
 use crate::summand::Performed;
 use crate::system_size::{Measure, is_too_large};
-use pepa_resolver::StructuredFile;
+use fault_ends::End;
 use sqlite_items::Items;
 use std::alloc::Global;
 
@@ -34,24 +30,22 @@ pub(crate) struct Counted {
 }
 
 /// Counts the action types, the sets, the leaves and their activities, and the leaves and the nodes of the system.
-pub(crate) fn count(alloc: Global, file: &StructuredFile) -> Result<Counted, LimitEnd>
-    requires built { IsBuilt file.now.compounds (bodies_of file.now.bodies) (named_of file.now.system) }
-    requires compounds { IsOrder (CompoundEdge (bodies_of file.now.bodies)) (length (bodies_of file.now.bodies)) file.now.compound_order }
-    requires sequential { IsOrder (UnguardedEdge (bodies_of file.now.bodies)) (length (bodies_of file.now.bodies)) file.now.sequential_order }
-    ensures { Counts (keys file.now.actions) file.now.compounds (bodies_of file.now.bodies) (named_of file.now.system) result }
+pub(crate) fn count(alloc: Global, file: &StructuredFile) -> Result<Counted, End<OverLimit>>
+    requires { IsOrderedFile file.now }
+    ensures { OkOrFault result (IsCountedFile file.now) (λ _. IsPastLimit file.now) }
 {
-    let compounds = file.compounds.as_slice();
-    let bodies = file.bodies.as_slice();
-    let system = &file.system;
-    if file.actions.len() > MOST_ACTIONS + 1 {
-        return Err(LimitEnd::TooMany);
+    let compounds = file.structure.compounds.as_slice();
+    let bodies = file.numbered.bodies.as_slice();
+    let system = &file.numbered.system;
+    if file.numbered.actions.len() > MOST_ACTIONS + 1 {
+        return Err(End::Fault(OverLimit));
     }
     let sets = set_table(alloc, bodies, system)?;
     if sets.len() > MOST_SETS {
-        return Err(LimitEnd::TooMany);
+        return Err(End::Fault(OverLimit));
     }
     let leaves = leaves_of(alloc, compounds, bodies, system)?;
-    let order = file.sequential_order.as_slice();
+    let order = file.structure.sequential_order.as_slice();
     let constants = leaves.constants.as_slice();
     let performed = performed(
         alloc,
@@ -64,21 +58,21 @@ pub(crate) fn count(alloc: Global, file: &StructuredFile) -> Result<Counted, Lim
         alloc,
         Measure::Leaves,
         compounds,
-        file.compound_order.as_slice(),
+        file.structure.compound_order.as_slice(),
         bodies,
         system,
     )? {
-        return Err(LimitEnd::TooMany);
+        return Err(End::Fault(OverLimit));
     }
     if is_too_large(
         alloc,
         Measure::Nodes,
         compounds,
-        file.compound_order.as_slice(),
+        file.structure.compound_order.as_slice(),
         bodies,
         system,
     )? {
-        return Err(LimitEnd::TooMany);
+        return Err(End::Fault(OverLimit));
     }
     Ok(Counted {
         sets,

@@ -2,12 +2,12 @@
 ghost use Rattle.std.specs.Prelude.{◌≡◌, ◌≤◌, List, ◌∷◌, ◌++◌, false, length, IfOk, OnOk};
 ghost use Rattle.pepa_resolver.specs.Named.{Named};
 ghost use Rattle.pepa_resolver.specs.NamedTypes.{named_of, bodies_of};
-ghost use Rattle.pepa_resolver.specs.Structure.{has_system, IsCompound, NotSequentialAt};
+ghost use Rattle.pepa_checks.specs.Structure.{has_system, IsCompoundConstant, NotSequentialAt};
 ghost use Rattle.pepa_resolver.specs.Faults.{HasNone};
-ghost use Rattle.pepa_resolver.specs.Graphs.{IsTableOf};
+ghost use Rattle.node_orders.specs.Graphs.{IsTableOf};
 ghost use Rattle.pepa_checks.specs.Outline.{is_compound as is_compound_by};
 ghost use Rattle.pepa_checks.specs.Activities.{written_followers, written_components};
-ghost use Rattle.pepa_checks.specs.Candidates.{Stands, Walked, Put, has_system_part, Line, AreHeads, LineWalked, IsFileWalk};
+ghost use Rattle.pepa_checks.specs.Candidates.{Stands, Walked, Put, has_system_part, ConstantLine, AreHeads, LineWalked, IsFileWalk};
 
 use crate::nodes::{Node, RateKey, add_node};
 use crate::summand::Summand;
@@ -75,7 +75,9 @@ impl<'p> Walk<'p> {
     ) -> Result<u32, AllocError>
         requires { has_system (named_of process.now) ≡ false }
         ensures { IfOk result
-            (λ number. (written : List Named) → Stands self.old written → Walked self.old self.new operands.old operands.new written (named_of process.now) number) }
+            (λ number. (written : List Named) → Stands self.old written
+            → Walked self.old self.new operands.old operands.new written
+            (named_of process.now) number) }
     {
         match process {
             NamedProcess::Constant { number, .. } => {
@@ -122,7 +124,9 @@ impl<'p> Walk<'p> {
     fn add_candidate(&mut self, alloc: Global, process: &'p NamedProcess) -> Result<(), AllocError>
         requires { has_system (named_of process.now) ≡ false }
         ensures { OnOk result
-            ((written : List Named) → Stands self.old written → Put self.old self.new (named_of process.now ∷ (written_followers (named_of process.now) ++ written))) }
+            ((written : List Named) → Stands self.old written
+            → Put self.old self.new
+            (named_of process.now ∷ (written_followers (named_of process.now) ++ written))) }
     {
         let mut operands = Items::new(alloc);
         let number = self.number_of(alloc, process, &mut operands)?;
@@ -143,7 +147,9 @@ impl<'p> Walk<'p> {
     ) -> Result<(), AllocError>
         requires { has_system_part (named_of process.now) ≡ false }
         ensures { OnOk result
-            ((written : List Named) → Stands self.old written → Put self.old self.new (written_components compounds.now (named_of process.now) ++ written)) }
+            ((written : List Named) → Stands self.old written
+            → Put self.old self.new
+            (written_components compounds.now (named_of process.now) ++ written)) }
     {
         match process {
             NamedProcess::Constant { number, .. } => {
@@ -173,7 +179,10 @@ impl<'p> Walk<'p> {
     ) -> Result<(), AllocError>
         requires { has_system (named_of body.now) ≡ false }
         ensures { OnOk result
-            ((written : List Named) (lines : List Line) → Stands self.old written → AreHeads self.old lines heads.old → LineWalked self.new heads.new written lines (record { constant = constant; body = named_of body.now })) }
+            ((written : List Named) (lines : List ConstantLine) → Stands self.old written
+            → AreHeads self.old lines heads.old
+            → LineWalked self.new heads.new written lines
+            (record { constant = constant; body = named_of body.now })) }
     {
         let mut operands = Items::new(alloc);
         let _body = self.number_of(alloc, body, &mut operands)?;
@@ -196,7 +205,7 @@ pub(crate) fn walk_file<'p>(
 ) -> Result<FileWalk<'p>, AllocError>
     requires few { length bodies.now ≤ 1024 }
     requires sizes { length compounds.now ≡ length bodies.now }
-    requires compounds { IsTableOf (IsCompound (bodies_of bodies.now)) compounds.now }
+    requires compounds { IsTableOf (IsCompoundConstant (bodies_of bodies.now)) compounds.now }
     requires sequential { HasNone (NotSequentialAt (bodies_of bodies.now) (named_of system.now)) }
     ensures { IfOk result (IsFileWalk compounds.now (bodies_of bodies.now) (named_of system.now)) }
 {

@@ -1,30 +1,29 @@
 //! The checks of a file, and its model.
 ghost use Rattle.std.specs.Prelude.{◌≡◌, ◌<◌, length, Some, slice_get};
+ghost use Rattle.fault_ends.specs.Answers.{OkOrFault};
 ghost use Rattle.pepa_lexer.specs.TokenLists.{IsTokens};
 ghost use Rattle.pepa_lexer.specs.declared.kinds.Token.{Token};
-ghost use Rattle.pepa_reader.specs.Terminals.{terminals};
+ghost use Rattle.token_grammar.specs.Terminals.{terminals};
 ghost use Rattle.pepa_reader.specs.Trees.{file_node_of};
 ghost use Rattle.pepa_reader.specs.FileAnswers.{IsFileTree};
 ghost use Rattle.pepa_resolver.specs.Named.{first_at};
-ghost use Rattle.indexmap.specs.IndexMap.{keys};
-ghost use Rattle.pepa_resolver.specs.NamedTypes.{named_of, bodies_of};
-ghost use Rattle.pepa_resolver.specs.Structure.{CompoundEdge, UnguardedEdge};
-ghost use Rattle.pepa_resolver.specs.Graphs.{IsOrder};
-ghost use Rattle.pepa_checks.specs.Built.{IsBuilt};
-ghost use Rattle.pepa_checks.specs.FileEnds.{Judges, IsWithin, EndsAs};
-ghost use Rattle.pepa_checks.specs.CheckedFiles.{Checks};
+ghost use Rattle.pepa_resolver.specs.NamedTypes.{named_of};
+ghost use Rattle.pepa_checks.specs.FileViews.{IsOrderedFile};
+ghost use Rattle.pepa_checks.specs.FileEnds.{IsUnmixedFile, IsLateRefusal};
+ghost use Rattle.pepa_checks.specs.CheckedFiles.{IsModelOf, IsRefusedFor, Checks};
 
+use crate::cause::{CheckCause, CheckEnd, Refusal};
 use crate::counting::{Counted, count};
-use crate::limit_end::LimitEnd;
 use crate::mixed::first_mixed;
 use crate::model_making::model_of;
-use pepa_lexer::Token;
+use crate::over_limit::OverLimit;
+use crate::structured_file::{StructuredFile, structured_file};
+use fault_ends::End;
+use pepa_lexer::{Place, Token};
 use pepa_model::Model;
 use pepa_reader::FileTree;
-use pepa_resolver::{
-    CheckCause, CheckEnd, NamedProcess, StructuredFile, check_names_rates_and_structure,
-};
-use std::alloc::{AllocError, Global};
+use pepa_resolver::NamedProcess;
+use std::alloc::Global;
 
 /// The index of the first constant of a process, or of the `(` of its first activity, whichever stands first.
 fn first_index(process: &NamedProcess) -> usize
@@ -39,74 +38,58 @@ fn first_index(process: &NamedProcess) -> usize
     }
 }
 
-/// Why a file without a fault up to its structure has no model.
-#[derive(Clone, Copy, Debug)]
-enum ModelEnd {
-    /// A limit is passed.
-    TooMany,
-    /// A leaf has a mixed activity, which is written at this index.
-    Mixed(usize),
-    /// Memory ran out.
-    Memory,
-}
-
-impl From<AllocError> for ModelEnd {
-    ghost use Rattle.pepa_checks.specs.declared.file_check.ModelEnd.TheVariants.{Memory};
-
-    ghost from_gives = { λ _ end. end ≡ Memory };
-
-    fn from(_error: AllocError) -> ModelEnd {
-        ModelEnd::Memory
-    }
-}
-
-impl From<LimitEnd> for ModelEnd {
-    ghost use Rattle.pepa_checks.specs.FileEnds.{model_end};
-
-    ghost from_gives = { λ end other. other ≡ model_end end };
-
-    fn from(end: LimitEnd) -> ModelEnd {
-        match end {
-            LimitEnd::TooMany => ModelEnd::TooMany,
-            LimitEnd::Memory => ModelEnd::Memory,
-        }
-    }
-}
-
 /// Counts the parts of a file, and looks for a mixed activity.
-fn judge(alloc: Global, file: &StructuredFile) -> Result<Counted, ModelEnd>
-    requires built { IsBuilt file.now.compounds (bodies_of file.now.bodies) (named_of file.now.system) }
-    requires compounds { IsOrder (CompoundEdge (bodies_of file.now.bodies)) (length (bodies_of file.now.bodies)) file.now.compound_order }
-    requires sequential { IsOrder (UnguardedEdge (bodies_of file.now.bodies)) (length (bodies_of file.now.bodies)) file.now.sequential_order }
-    ensures { Judges (keys file.now.actions) file.now.compounds (bodies_of file.now.bodies) (named_of file.now.system) result }
+fn judge(alloc: Global, file: &StructuredFile) -> Result<Counted, End<Refusal>>
+    requires { IsOrderedFile file.now }
+    ensures { OkOrFault result (IsUnmixedFile file.now)
+        (λ refusal. IsLateRefusal file.now refusal.cause refusal.at) }
 {
-    let counted = count(alloc, file)?;
+    let counted = match count(alloc, file) {
+        Ok(counted) => counted,
+        Err(End::Fault(OverLimit)) => {
+            return Err(End::Fault(Refusal {
+                cause: CheckCause::TooMany,
+                at: first_index(&file.numbered.system),
+            }));
+        }
+        Err(End::Memory) => return Err(End::Memory),
+    };
     match first_mixed(alloc, counted.performed.as_slice())? {
-        Some(at) => Err(ModelEnd::Mixed(at)),
+        Some(at) => Err(End::Fault(Refusal {
+            cause: CheckCause::MixedChoice,
+            at,
+        })),
         None => Ok(counted),
     }
 }
 
-/// The refusal of a file for a cause, at the token at an index.
-fn refusal(tokens: &[Token], cause: CheckCause, at: usize) -> CheckEnd
-    requires { at < length tokens.now }
-    ensures { (token : Token) × (slice_get tokens.now at ≡ Some token) × (result ≡ CheckEnd.Refused cause token.place) }
+/// The model of a file, or its first fault, at the token of an index.
+fn model_or_refusal(
+    alloc: Global,
+    tree: &FileTree,
+    tokens: &[Token],
+    input: &[u8],
+) -> Result<Model, End<Refusal>>
+    requires tokens { IsTokens input.now tokens.now }
+    requires tree { IsFileTree (terminals input.now tokens.now) tree.now }
+    ensures { OkOrFault result
+        (IsModelOf input.now tokens.now (file_node_of tree.now))
+        (λ refusal. IsRefusedFor input.now tokens.now
+        (file_node_of tree.now) refusal.cause refusal.at) }
 {
-    let place = tokens[at].place;
-    CheckEnd::Refused { cause, place }
+    let file = structured_file(alloc, tree, tokens, input)?;
+    match judge(alloc, &file) {
+        Ok(counted) => Ok(model_of(alloc, file, counted)?),
+        Err(end) => Err(end),
+    }
 }
 
-/// How the check of a file with this system ends.
-fn ended(tokens: &[Token], system: &NamedProcess, end: ModelEnd) -> CheckEnd
-    requires system { first_at (named_of system.now) < length tokens.now }
-    requires mixed { IsWithin (length tokens.now) end }
-    ensures { EndsAs tokens.now (first_at (named_of system.now)) end result }
+/// Where the token at an index stands.
+fn place_at(tokens: &[Token], at: usize) -> Place
+    requires { at < length tokens.now }
+    ensures { (token : Token) × (slice_get tokens.now at ≡ Some token) × (result ≡ token.place) }
 {
-    match end {
-        ModelEnd::TooMany => refusal(tokens, CheckCause::TooMany, first_index(system)),
-        ModelEnd::Mixed(at) => refusal(tokens, CheckCause::MixedChoice, at),
-        ModelEnd::Memory => CheckEnd::Memory,
-    }
+    tokens[at].place
 }
 
 /// Checks a file, and gives its model.
@@ -141,9 +124,12 @@ pub fn check(
     requires tree { IsFileTree (terminals input.now tokens.now) tree.now }
     ensures { Checks input.now tokens.now (file_node_of tree.now) result }
 {
-    let file = check_names_rates_and_structure(alloc, tree, tokens, input)?;
-    match judge(alloc, &file) {
-        Ok(counted) => Ok(model_of(alloc, file, counted)?),
-        Err(end) => Err(ended(tokens, &file.system, end)),
+    match model_or_refusal(alloc, tree, tokens, input) {
+        Ok(model) => Ok(model),
+        Err(End::Fault(refusal)) => Err(CheckEnd::Refused {
+            cause: refusal.cause,
+            place: place_at(tokens, refusal.at),
+        }),
+        Err(End::Memory) => Err(CheckEnd::Memory),
     }
 }

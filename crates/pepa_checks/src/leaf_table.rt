@@ -2,10 +2,10 @@
 ghost use Rattle.std.specs.Prelude.{◌≡◌, ◌≤◌, [], ◌∷◌, false, length, map, IfOk, OnOk};
 ghost use Rattle.pepa_model.specs.Expression.{expression_of};
 ghost use Rattle.pepa_resolver.specs.NamedTypes.{named_of};
-ghost use Rattle.pepa_resolver.specs.Structure.{has_system};
+ghost use Rattle.pepa_checks.specs.Structure.{has_system};
 ghost use Rattle.pepa_model.specs.Expression.{Const};
 ghost use Rattle.pepa_checks.specs.Outline.{expression_in};
-ghost use Rattle.pepa_checks.specs.LeafTables.{Adds, place_by, retargeted as retargeted_by, turned};
+ghost use Rattle.pepa_checks.specs.LeafTables.{AddsNode, place_by, retargeted as retargeted_by, renumbered};
 
 use crate::expressions::{Candidate, Head};
 use crate::sequential::sequential_of;
@@ -46,7 +46,7 @@ impl LeafTable {
         expression: Sequential,
         operands: Items<Summand>,
     ) -> Result<(), AllocError>
-        ensures { OnOk result (Adds self.old self.new number (expression_of expression) operands) }
+        ensures { OnOk result (AddsNode self.old self.new number (expression_of expression) operands) }
     {
         if self.numbers.insert(number)? {
             self.expressions.push(expression)?;
@@ -57,7 +57,8 @@ impl LeafTable {
 
     /// Puts a sequential constant behind the others, unless it is there.
     pub(crate) fn add_head(&mut self, head: Head) -> Result<(), AllocError>
-        ensures { OnOk result (Adds self.old self.new head.number (Const head.constant) head.operands) }
+        ensures { OnOk result (AddsNode self.old self.new head.number
+            (Const head.constant) head.operands) }
     {
         let Head {
             constant,
@@ -74,7 +75,8 @@ impl LeafTable {
         candidate: Candidate,
     ) -> Result<(), AllocError>
         requires { has_system (named_of candidate.process.now) ≡ false }
-        ensures { OnOk result (Adds self.old self.new candidate.entry.number (expression_in (named_of candidate.entry.process.now)) candidate.entry.operands) }
+        ensures { OnOk result (AddsNode self.old self.new candidate.entry.number
+            (expression_in (named_of candidate.entry.process.now)) candidate.entry.operands) }
     {
         let Candidate {
             process,
@@ -123,7 +125,7 @@ impl LeafTable {
     /// The operands from the first one on, with the numbers of leaves in place of nodes'.
     fn turned(&self, alloc: Global, operands: &[Summand]) -> Result<Items<Summand>, AllocError>
         requires { length self.now.numbers.keys ≤ 65535 }
-        ensures { IfOk result (λ list. list ≡ turned self.now.numbers.keys operands.now) }
+        ensures { IfOk result (λ list. list ≡ renumbered self.now.numbers.keys operands.now) }
     {
         let mut list = Items::new(alloc);
         let mut left = operands.len();
@@ -137,7 +139,8 @@ impl LeafTable {
     /// The operands of each leaf's choice.
     pub(crate) fn summands(&self, alloc: Global) -> Result<Items<Items<Summand>>, AllocError>
         requires { length self.now.numbers.keys ≤ 65535 }
-        ensures { IfOk result (λ lists. lists ≡ map (turned self.now.numbers.keys) self.now.operands) }
+        ensures { IfOk result (λ lists. lists
+            ≡ map (renumbered self.now.numbers.keys) self.now.operands) }
     {
         let mut lists = Items::new(alloc);
         for operands in self.operands.as_slice() {

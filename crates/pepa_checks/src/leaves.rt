@@ -1,15 +1,17 @@
 //! The leaves of a file, each with the operands of its choice.
 ghost use Rattle.std.specs.Prelude.{◌≡◌, ◌≤◌, length, IfOk};
+ghost use Rattle.fault_ends.specs.Answers.{OkOrFault};
 ghost use Rattle.pepa_resolver.specs.NamedTypes.{named_of, bodies_of};
-ghost use Rattle.pepa_resolver.specs.Structure.{IsCompound, NotSequentialAt};
+ghost use Rattle.pepa_checks.specs.Structure.{IsCompoundConstant, NotSequentialAt};
 ghost use Rattle.pepa_resolver.specs.Faults.{HasNone};
-ghost use Rattle.pepa_resolver.specs.Graphs.{IsTableOf};
-ghost use Rattle.pepa_checks.specs.LeavesAnswers.{FindsLeaves, numbers_from};
+ghost use Rattle.node_orders.specs.Graphs.{IsTableOf};
+ghost use Rattle.pepa_checks.specs.LeavesAnswers.{IsLeavesOf, LeavesAreTooMany, numbers_from};
 
 use crate::expressions::{FileWalk, walk_file};
 use crate::leaf_table::LeafTable;
-use crate::limit_end::LimitEnd;
+use crate::over_limit::OverLimit;
 use crate::summand::Summand;
+use fault_ends::End;
 use pepa_model::SequentialList;
 use pepa_resolver::NamedProcess;
 use sqlite_items::Items;
@@ -52,12 +54,14 @@ pub(crate) fn leaves_of(
     compounds: &[bool],
     bodies: &[NamedProcess],
     system: &NamedProcess,
-) -> Result<Leaves, LimitEnd>
+) -> Result<Leaves, End<OverLimit>>
     requires few { length bodies.now ≤ 1024 }
     requires sizes { length compounds.now ≡ length bodies.now }
-    requires compounds { IsTableOf (IsCompound (bodies_of bodies.now)) compounds.now }
+    requires compounds { IsTableOf (IsCompoundConstant (bodies_of bodies.now)) compounds.now }
     requires sequential { HasNone (NotSequentialAt (bodies_of bodies.now) (named_of system.now)) }
-    ensures { FindsLeaves compounds.now (bodies_of bodies.now) (named_of system.now) result }
+    ensures { OkOrFault result
+        (IsLeavesOf compounds.now (bodies_of bodies.now) (named_of system.now))
+        (λ _. LeavesAreTooMany compounds.now (bodies_of bodies.now) (named_of system.now)) }
 {
     let FileWalk { walk, mut heads } = walk_file(alloc, compounds, bodies, system)?;
     let mut table = LeafTable::new(alloc);
@@ -68,7 +72,7 @@ pub(crate) fn leaves_of(
     while let Some(candidate) = candidates.pop() {
         table.add_candidate(alloc, candidate)?;
         if table.numbers.len() > MAX_LEAVES {
-            return Err(LimitEnd::TooMany);
+            return Err(End::Fault(OverLimit));
         }
     }
     let summands = table.summands(alloc)?;

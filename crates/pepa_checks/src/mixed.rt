@@ -23,7 +23,8 @@ fn is_passive(rate: Rate) -> bool
 ///
 /// The map has the kind of the first activity of each type. Up to the first mixed one, the others of the type have the same.
 fn first_mixed_of(alloc: Global, list: &[Performed]) -> Result<Option<usize>, AllocError>
-    ensures { IfOk result (λ found. MatchOption found (AreUnmixed (activities list.now)) (IsFirstMixedOf list.now)) }
+    ensures { IfOk result (λ found. MatchOption found (AreUnmixed (activities list.now))
+        (IsFirstMixedOf list.now)) }
 {
     let mut kinds = IndexMap::new(alloc);
     for performed in list {
@@ -48,7 +49,8 @@ pub(crate) fn first_mixed(
     alloc: Global,
     lists: &[Items<Performed>],
 ) -> Result<Option<usize>, AllocError>
-    ensures { IfOk result (λ found. MatchOption found (HaveNoMixed lists.now) (IsFirstMixedIn lists.now)) }
+    ensures { IfOk result (λ found. MatchOption found (HaveNoMixed lists.now)
+        (IsFirstMixedIn lists.now)) }
 {
     for number in 0..lists.len() {
         if let Some(at) = first_mixed_of(alloc, lists[number].as_slice())? {

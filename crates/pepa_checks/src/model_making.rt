@@ -1,13 +1,13 @@
 //! The model of a file that passes every check.
 ghost use Rattle.std.specs.Prelude.{◌≡◌, map, IfOk};
-ghost use Rattle.pepa_checks.specs.MadeModels.{IsReady, AreNewParts, IsMade};
+ghost use Rattle.pepa_checks.specs.MadeModels.{MakesModel, AreNewParts, IsMade};
 
 use crate::counting::Counted;
 use crate::sets::set_lists;
 use crate::shapes::{definitions, system_shape};
+use crate::structured_file::StructuredFile;
 use crate::summand::Performed;
 use pepa_model::{ActivityList, ActivityLists, Bodies, Model, Shape2, Words32List};
-use pepa_resolver::StructuredFile;
 use sqlite_items::Items;
 use std::alloc::{AllocError, Global};
 
@@ -48,14 +48,19 @@ fn new_parts(
     file: &StructuredFile,
     counted: &Counted,
 ) -> Result<NewParts, AllocError>
-    requires { IsReady file.now counted.now }
+    requires { MakesModel file.now counted.now }
     ensures { IfOk result (λ parts. AreNewParts file.now counted.now parts) }
 {
-    let compounds = file.compounds.as_slice();
-    let bodies = definitions(alloc, compounds, &counted.sets, file.bodies.as_slice())?;
+    let compounds = file.structure.compounds.as_slice();
+    let bodies = definitions(
+        alloc,
+        compounds,
+        &counted.sets,
+        file.numbered.bodies.as_slice(),
+    )?;
     let activities = activity_lists(alloc, counted.performed.as_slice())?;
     let sets = set_lists(alloc, &counted.sets)?;
-    let system = system_shape(alloc, compounds, &counted.sets, &file.system)?;
+    let system = system_shape(alloc, compounds, &counted.sets, &file.numbered.system)?;
     Ok(NewParts {
         bodies,
         activities,
@@ -66,15 +71,15 @@ fn new_parts(
 
 /// A model of a file's names and leaves and of these parts.
 fn joined(file: StructuredFile, counted: Counted, parts: NewParts) -> Model
-    requires ready { IsReady file counted }
+    requires ready { MakesModel file counted }
     requires parts { AreNewParts file counted parts }
     ensures { IsMade file counted result }
 {
-    let names = file.names;
+    let numbered = file.numbered;
     let leaves = counted.leaves;
     Model {
-        constants: names.constants,
-        actions: file.actions,
+        constants: numbered.constants,
+        actions: numbered.actions,
         bodies: parts.bodies,
         leaves: leaves.expressions,
         activities: parts.activities,
@@ -90,7 +95,7 @@ pub(crate) fn model_of(
     file: StructuredFile,
     counted: Counted,
 ) -> Result<Model, AllocError>
-    requires { IsReady file counted }
+    requires { MakesModel file counted }
     ensures { IfOk result (λ m. IsMade file counted m) }
 {
     let parts = new_parts(alloc, &file, &counted)?;

@@ -139,7 +139,9 @@ fn counted(count: usize) -> Result<u32, AllocError>
 /// The number of a node, which is put behind the others unless it is there.
 pub(crate) fn add_node(nodes: &mut IndexSet<Node>, node: Node) -> Result<u32, AllocError>
     ensures { IfOk result
-        (λ number. (e : Expression) → IsNodeTable nodes.old.keys → Builds (expressions_by nodes.old.keys) node e → Has nodes.old.keys nodes.new.keys number e) }
+        (λ number. (e : Expression) → IsNodeTable nodes.old.keys
+        → Builds (expressions_by nodes.old.keys) node e
+        → Has nodes.old.keys nodes.new.keys number e) }
 {
     let (place, _) = nodes.insert_full(node)?;
     let number = counted(place)?;

@@ -2,7 +2,7 @@
 ghost use Rattle.std.specs.Prelude.{◌≡◌, false, IfOk};
 ghost use Rattle.pepa_model.specs.Expression.{expression_of};
 ghost use Rattle.pepa_resolver.specs.NamedTypes.{named_of};
-ghost use Rattle.pepa_resolver.specs.Structure.{has_system};
+ghost use Rattle.pepa_checks.specs.Structure.{has_system};
 ghost use Rattle.pepa_checks.specs.Outline.{expression_in};
 
 use pepa_model::Sequential;

@@ -27,7 +27,8 @@ fn add_set(alloc: Global, sets: &mut SetTable, set: &[u32]) -> Result<(), AllocE
 
 /// Puts the sets of a process behind the others, in the order of the text, those that aren't there.
 fn add_sets(alloc: Global, sets: &mut SetTable, process: &NamedProcess) -> Result<(), AllocError>
-    ensures { OnOk result (keys sets.new ≡ with_names (keys sets.old) (sets_written (named_of process.now))) }
+    ensures { OnOk result (keys sets.new
+        ≡ with_names (keys sets.old) (sets_written (named_of process.now))) }
 {
     match process {
         NamedProcess::Constant { .. } => Ok(()),

@@ -3,7 +3,7 @@ ghost use Rattle.std.specs.Prelude.{◌≡◌, ◌≤◌, false, if◌then◌els
 ghost use Rattle.indexmap.specs.IndexMap.{keys};
 ghost use Rattle.pepa_model.specs.Expression.{Const, LeafShape, ConstShape, CoopShape, shape_of, definition_of};
 ghost use Rattle.pepa_resolver.specs.NamedTypes.{named_of, bodies_of};
-ghost use Rattle.pepa_resolver.specs.Structure.{has_system};
+ghost use Rattle.pepa_checks.specs.Structure.{has_system};
 ghost use Rattle.pepa_checks.specs.Outline.{is_compound, shape_in, definition_in, definitions_in};
 ghost use Rattle.pepa_checks.specs.Sequences.{HasSequentialParts, AreBodies};
 
@@ -25,7 +25,8 @@ fn cooperating(alloc: Global, left: Shape2, right: Shape2, set: u32) -> Result<S
 
 /// A constant, or the leaf that it is.
 fn constant_shape(compounds: &[bool], number: u32) -> Shape2
-    ensures { shape_of result ≡ (if is_compound compounds.now number then ConstShape number else LeafShape (Const number)) }
+    ensures { shape_of result ≡
+        (if is_compound compounds.now number then ConstShape number else LeafShape (Const number)) }
 {
     if compounds.get(number as usize).copied().unwrap_or(false) {
         Shape2::Constant(number)
@@ -43,7 +44,8 @@ pub(crate) fn system_shape(
 ) -> Result<Shape2, AllocError>
     requires few { length (keys sets.now) ≤ 1024 }
     requires sequential { HasSequentialParts (named_of process.now) }
-    ensures { IfOk result (λ shape. shape_of shape ≡ shape_in compounds.now (keys sets.now) (named_of process.now)) }
+    ensures { IfOk result (λ shape. shape_of shape
+        ≡ shape_in compounds.now (keys sets.now) (named_of process.now)) }
 {
     match process {
         NamedProcess::Constant { number, .. } => Ok(constant_shape(compounds, *number)),
@@ -74,7 +76,8 @@ fn body_of(
     requires few { length (keys sets.now) ≤ 1024 }
     requires sequential { HasSequentialParts (named_of process.now) }
     requires plain { is_compound ≡ false → has_system (named_of process.now) ≡ false }
-    ensures { IfOk result (λ body. definition_of body ≡ definition_in compounds.now (keys sets.now) is_compound (named_of process.now)) }
+    ensures { IfOk result (λ body. definition_of body
+        ≡ definition_in compounds.now (keys sets.now) is_compound (named_of process.now)) }
 {
     if is_compound {
         Ok(Body::Compound(system_shape(alloc, compounds, sets, process)?))
@@ -93,7 +96,8 @@ pub(crate) fn definitions(
     requires few { length (keys sets.now) ≤ 1024 }
     requires one_each { length compounds.now ≡ length bodies.now }
     requires bodies { AreBodies compounds.now (bodies_of bodies.now) }
-    ensures { IfOk result (λ made. map definition_of made ≡ definitions_in compounds.now (keys sets.now) compounds.now (bodies_of bodies.now)) }
+    ensures { IfOk result (λ made. map definition_of made
+        ≡ definitions_in compounds.now (keys sets.now) compounds.now (bodies_of bodies.now)) }
 {
     let mut made = Items::new(alloc);
     for number in 0..bodies.len() {

@@ -3,10 +3,10 @@ ghost use Rattle.std.specs.Prelude.{◌≡◌, ◌+◌, ◌<◌, ◌↔◌, List
 ghost use Rattle.pepa_model.specs.Expanded.{Expanded, Expands};
 ghost use Rattle.pepa_resolver.specs.Named.{constants_named};
 ghost use Rattle.pepa_resolver.specs.NamedTypes.{named_of, bodies_of};
-ghost use Rattle.pepa_resolver.specs.Structure.{IsCompound, CompoundEdge};
-ghost use Rattle.pepa_resolver.specs.Graphs.{AreBelow, IsTableOf, IsOrder};
+ghost use Rattle.pepa_checks.specs.Structure.{IsCompoundConstant, CompoundEdge};
+ghost use Rattle.node_orders.specs.Graphs.{AreBelow, IsTableOf, IsOrder};
 ghost use Rattle.pepa_checks.specs.Outline.{is_compound as is_compound_constant, outline_with};
-ghost use Rattle.pepa_checks.specs.SystemSizes.{measured, own_count, most_of, capped, IsCountIn};
+ghost use Rattle.pepa_checks.specs.SystemSizes.{measured, own_count, most_of, capped_count, IsCountIn};
 
 use pepa_resolver::NamedProcess;
 use sqlite_items::Items;
@@ -44,7 +44,8 @@ impl Measure {
 
 /// The count of a cooperation, where one more than the most stands for all greater ones.
 fn joined(measure: Measure, left: usize, right: usize) -> usize
-    ensures { (m : ℕ) (n : ℕ) → left ≡ capped measure m → right ≡ capped measure n → result ≡ capped measure ((m + n) + own_count measure) }
+    ensures { (m : ℕ) (n : ℕ) → left ≡ capped_count measure m → right ≡ capped_count measure n
+        → result ≡ capped_count measure ((m + n) + own_count measure) }
 {
     let both = left.saturating_add(right).saturating_add(measure.own());
     both.min(measure.most() + 1)
@@ -66,7 +67,8 @@ fn count_at(counts: &[usize], constant: u32) -> usize
 
 /// The size of a process as a system, by those of the compound constants.
 fn size_of(measure: Measure, compounds: &[bool], counts: &[usize], process: &NamedProcess) -> usize
-    ensures { IsCountIn measure compounds.now counts.now (constants_named (named_of process.now)) (named_of process.now) result }
+    ensures { IsCountIn measure compounds.now counts.now (constants_named (named_of process.now))
+        (named_of process.now) result }
 {
     match process {
         NamedProcess::Constant { number, .. } => {
@@ -101,11 +103,13 @@ pub(crate) fn is_too_large(
     system: &NamedProcess,
 ) -> Result<bool, AllocError>
     requires sizes { length compounds.now ≡ length bodies.now }
-    requires compounds { IsTableOf (IsCompound (bodies_of bodies.now)) compounds.now }
+    requires compounds { IsTableOf (IsCompoundConstant (bodies_of bodies.now)) compounds.now }
     requires below { AreBelow (length bodies.now) (constants_named (named_of system.now)) }
     requires order { IsOrder (CompoundEdge (bodies_of bodies.now)) (length bodies.now) order.now }
     ensures { IfOk result (λ large. (sets : List (List ℕ)) (tree : Expanded)
-        → Expands (outline_with sets compounds.now (bodies_of bodies.now) (named_of system.now)).definitions (outline_with sets compounds.now (bodies_of bodies.now) (named_of system.now)).system tree
+        → Expands (outline_with sets compounds.now (bodies_of bodies.now)
+        (named_of system.now)).definitions
+        (outline_with sets compounds.now (bodies_of bodies.now) (named_of system.now)).system tree
         → (IsTrue large ↔ (most_of measure < measured measure tree))) }
 {
     let mut counts = Items::from_vec(vec![in alloc; 0; bodies.len()]?);

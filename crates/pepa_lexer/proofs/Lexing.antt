@@ -4,7 +4,7 @@ use Rattle.std.specs.List.{suffix_len}
 use Rattle.std.proofs.lemmas.List.{length-take-le, drop_at}
 use Rattle.std.proofs.lemmas.List.Sums.{suffix_len-le-length}
 use Rattle.pepa_lexer.specs.Bytes.{is_line_feed}
-use Rattle.pepa_lexer.specs.Lexemes.{Lexeme, spelled, IsLexeme, EndsBefore, Leads}
+use Rattle.pepa_lexer.specs.Lexemes.{Lexeme, spelled, IsLexeme, EndsBefore, StartsWithLexemes}
 use Rattle.pepa_lexer.specs.TokenLists.{place_of, kind_of, token_at, tokens_along}
 use Rattle.pepa_lexer.specs.Scans.{IsScanned}
 use Rattle.pepa_lexer.specs.declared.kinds.Kind.{Kind}
@@ -17,12 +17,12 @@ total : List Lexeme → ℕ
 total [] = 0
 total (lexeme ∷ lexemes) = length (spelled lexeme) + total lexemes
 
-leads_more : (lexemes : List Lexeme) (bytes rest : List ℕ) (x : Lexeme) → Leads lexemes bytes (spelled x ++ rest) → IsLexeme x → EndsBefore x rest → Leads (lexemes ++ x ∷ []) bytes rest
+leads_more : (lexemes : List Lexeme) (bytes rest : List ℕ) (x : Lexeme) → StartsWithLexemes lexemes bytes (spelled x ++ rest) → IsLexeme x → EndsBefore x rest → StartsWithLexemes (lexemes ++ x ∷ []) bytes rest
 leads_more [] bytes rest x leads form ends = (rest, leads, form, ends, refl)
 leads_more (lexeme ∷ lexemes) bytes rest x leads form ends =
     (leads.0, leads.1, leads.2, leads.3, leads_more lexemes leads.0 rest x leads.4 form ends)
 
-leads_len : (lexemes : List Lexeme) (bytes rest : List ℕ) → Leads lexemes bytes rest → total lexemes + length rest ≡ length bytes
+leads_len : (lexemes : List Lexeme) (bytes rest : List ℕ) → StartsWithLexemes lexemes bytes rest → total lexemes + length rest ≡ length bytes
 unfolding total
 leads_len [] bytes rest leads = let e = ap length leads in omega arith
 leads_len (lexeme ∷ lexemes) bytes rest leads =
@@ -44,7 +44,7 @@ tokens_along-push input at (lexeme ∷ lexemes) x =
     ap (λ (ts : List Token). front ++ ts) moved ∙ sym (append_assoc front (tokens_along input (at + length (spelled lexeme)) lexemes) _)
 
 abbrev pub IsDone : List ℕ → List ℕ → List Token → Type 0
-IsDone input rest tokens = (lexemes : List Lexeme) × Leads lexemes input rest × (tokens ≡ tokens_along input 0 lexemes)
+IsDone input rest tokens = (lexemes : List Lexeme) × StartsWithLexemes lexemes input rest × (tokens ≡ tokens_along input 0 lexemes)
 
 pub done_more : (input rest after : List ℕ) (at to : ℕ) (tokens : List Token) (x : Lexeme) → at ≤ length input → rest ≡ drop at input → IsDone input rest tokens → rest ≡ spelled x ++ after → IsLexeme x → EndsBefore x after → to ≡ at + length (spelled x) → IsDone input after (tokens ++ token_at (kind_of x) (place_of input at) at to)
 done_more input rest after at to tokens x within left done whole form ends to_is =
@@ -53,7 +53,7 @@ done_more input rest after at to tokens x within left done whole form ends to_is
     let d = length-drop at input in
     let e = ap length left in
     let here : 0 + total done.0 ≡ at = omega arith in
-    let more : Leads done.0 input (spelled x ++ after) = rw whole at leads in
+    let more : StartsWithLexemes done.0 input (spelled x ++ after) = rw whole at leads in
     let pushed = tokens_along-push input 0 done.0 x in
     let moved = rw here at pushed in
     (done.0 ++ x ∷ [], leads_more done.0 input after x more form ends, rw (to_is, done.2) (sym moved))

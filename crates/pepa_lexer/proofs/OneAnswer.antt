@@ -1,14 +1,14 @@
 -- A text has one list of tokens, or one fault.
 use Rattle.std.proofs.Common.{◌≡◌, ℕ, zero, suc, ◌<◌, List, [], ◌∷◌, ◌++◌, length, drop, refl, sym, ap, ◌∙◌, arith, length-drop}
 use Rattle.std.proofs.lemmas.List.{nil_from_length}
-use Rattle.pepa_lexer.specs.Lexemes.{Lexeme, Leads}
+use Rattle.pepa_lexer.specs.Lexemes.{Lexeme, StartsWithLexemes}
 use Rattle.pepa_lexer.specs.TokenLists.{place_of, tokens_along, end_of, IsTokens}
-use Rattle.pepa_lexer.specs.Faults.{Refuses, IsFaultOf}
+use Rattle.pepa_lexer.specs.Faults.{Refuses, IsLexFaultOf}
 use Rattle.pepa_lexer.specs.declared.kinds.Token.{Token}
 use Rattle.pepa_lexer.specs.declared.kinds.LexFault.{LexFault}
 use Rattle.pepa_lexer.proofs.OneLexeme.{one_lexeme, Stops, end_stops, refused_stops, refused_some, one_refusal}
 
-leads_one : (lexemes others : List Lexeme) (bytes rest left : List ℕ) → Leads lexemes bytes rest → Leads others bytes left → Stops rest → Stops left → (lexemes ≡ others) × (rest ≡ left)
+leads_one : (lexemes others : List Lexeme) (bytes rest left : List ℕ) → StartsWithLexemes lexemes bytes rest → StartsWithLexemes others bytes left → Stops rest → Stops left → (lexemes ≡ others) × (rest ≡ left)
 leads_one [] [] bytes rest left a b stops ends = (refl, sym a ∙ b)
 leads_one [] (other ∷ others) bytes rest left a b stops ends = absurd (stops other b.0 (record { whole = sym a ∙ b.1; form = b.2; ends = b.3 }))
 leads_one (lexeme ∷ lexemes) [] bytes rest left a b stops ends = absurd (ends lexeme a.0 (record { whole = sym b ∙ a.1; form = a.2; ends = a.3 }))
@@ -22,7 +22,7 @@ one_list input first second a b =
     let one = leads_one a.0 b.0 input [] [] a.1 b.1 end_stops end_stops in
     a.2 ∙ ap (λ (xs : List Lexeme). tokens_along input 0 xs ++ end_of input) one.0 ∙ sym b.2
 
-pub no_fault : (input : List ℕ) (list : List Token) (fault : LexFault) → IsTokens input list → IsFaultOf input fault → ⊥
+pub no_fault : (input : List ℕ) (list : List Token) (fault : LexFault) → IsTokens input list → IsLexFaultOf input fault → ⊥
 no_fault input list fault a b =
     let one = leads_one a.0 b.lexemes input [] (drop b.at input) a.1 b.leads end_stops (refused_stops fault (drop b.at input) (place_of input b.at) b.refuses) in
     refused_some fault (drop b.at input) (place_of input b.at) b.refuses (sym one.1)
@@ -31,7 +31,7 @@ some_rest : (fault : LexFault) (input : List ℕ) (at : ℕ) → Refuses (drop a
 some_rest fault input at refusal zero len = absurd (refused_some fault (drop at input) (place_of input at) refusal (nil_from_length (drop at input) len))
 some_rest fault input at refusal (suc n) len = omega arith
 
-pub one_fault : (input : List ℕ) (first second : LexFault) → IsFaultOf input first → IsFaultOf input second → first ≡ second
+pub one_fault : (input : List ℕ) (first second : LexFault) → IsLexFaultOf input first → IsLexFaultOf input second → first ≡ second
 one_fault input first second a b =
     let one = leads_one a.lexemes b.lexemes input (drop a.at input) (drop b.at input) a.leads b.leads (refused_stops first (drop a.at input) (place_of input a.at) a.refuses) (refused_stops second (drop b.at input) (place_of input b.at) b.refuses) in
     let len = ap length one.1 in

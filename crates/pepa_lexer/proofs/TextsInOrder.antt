@@ -3,20 +3,20 @@ use Rattle.std.proofs.Common.{◌≡◌, ℕ, ◌+◌, ◌-◌, ◌≤◌, Bool,
 use Rattle.std.specs.Prelude.{slice_range}
 use Rattle.std.proofs.lemmas.List.{take_at, drop_at, drop-drop}
 use Rattle.pepa_lexer.specs.Bytes.{is_capital, begins}
-use Rattle.pepa_lexer.specs.Lexemes.{Lexeme, Blank, LineComment, BlockComment, Word, Whole, Pointed, Mark, spelled, IsLexeme, IsWord, Leads}
+use Rattle.pepa_lexer.specs.Lexemes.{Lexeme, Blank, LineComment, BlockComment, Word, Whole, Pointed, Mark, spelled, IsLexeme, IsWord, StartsWithLexemes}
 use Rattle.pepa_lexer.specs.TokenLists.{place_of, kind_of, token_at, tokens_along, end_of, IsTokens}
-use Rattle.pepa_lexer.specs.TokenTexts.{IsTextOf, AreInOrder}
+use Rattle.pepa_lexer.specs.TokenTexts.{IsTokenText, AreInOrder}
 use Rattle.pepa_lexer.specs.declared.kinds.Kind.{Kind}
 use Rattle.pepa_lexer.specs.declared.kinds.Kind.TheVariants.{Small, Capital}
 use Rattle.pepa_lexer.specs.declared.kinds.Token.{Token}
 
-name_text : (name : List ℕ) (b : Bool) → IsWord name → begins is_capital name ≡ b → IsTextOf (cond b Capital Small) name
+name_text : (name : List ℕ) (b : Bool) → IsWord name → begins is_capital name ≡ b → IsTokenText (cond b Capital Small) name
 name_text name true word h = (word, h)
 name_text name false word h = (word, h)
 
 IsText : Option Kind → List ℕ → Type 0
 IsText None text = Unit {0}
-IsText (Some kind) text = IsTextOf kind text
+IsText (Some kind) text = IsTokenText kind text
 
 text_of : (lexeme : Lexeme) → IsLexeme lexeme → IsText (kind_of lexeme) (spelled lexeme)
 unfolding IsText
@@ -42,7 +42,7 @@ rest_at : (input front more : List ℕ) (at : ℕ) → drop at input ≡ front +
 rest_at input front more at e =
     sym (drop-drop (length front) at input) ∙ ap (drop (length front)) e ∙ drop_at front more (length front) refl
 
-in_order : (input : List ℕ) (lexemes : List Lexeme) (bytes : List ℕ) (at last : ℕ) → drop at input ≡ bytes → at ≤ length input → last ≤ at → Leads lexemes bytes [] → AreInOrder input last (tokens_along input at lexemes ++ end_of input)
+in_order : (input : List ℕ) (lexemes : List Lexeme) (bytes : List ℕ) (at last : ℕ) → drop at input ≡ bytes → at ≤ length input → last ≤ at → StartsWithLexemes lexemes bytes [] → AreInOrder input last (tokens_along input at lexemes ++ end_of input)
 in_order input [] bytes at last e within low leads =
     let l = length-drop at input in
     let len = ap length (e ∙ leads) in

@@ -2,7 +2,7 @@
 use Rattle.std.specs.Prelude.{◌≡◌, ◌≢◌, ℕ, ◌+◌, ◌<◌, ◌⊎◌, true, false, List, ◌∷◌, ◌++◌, length, drop, Result, Ok, Err}
 use Rattle.pepa_lexer.specs.Bytes.{is_digit, is_letter, is_word_byte, is_space, begins}
 use Rattle.pepa_lexer.specs.Signs.{sign_bytes}
-use Rattle.pepa_lexer.specs.Lexemes.{Lexeme, IsOpen, IsWord, AreDigits, Leads}
+use Rattle.pepa_lexer.specs.Lexemes.{Lexeme, IsOpen, IsWord, AreDigits, StartsWithLexemes}
 use Rattle.pepa_lexer.specs.TokenLists.{place_of, IsTokens}
 use Rattle.pepa_lexer.specs.declared.kinds.Place.{Place}
 use Rattle.pepa_lexer.specs.declared.kinds.Sign.{Sign}
@@ -54,14 +54,18 @@ Refuses bytes here (OpenComment place) = (place ≡ here) × BeginsOpenComment b
 Refuses bytes here Memory = ⊥
 
 -- behind lexemes stands what the fault refuses
-pub record IsFaultOf (input : List ℕ) (fault : LexFault) : Type 0 where
+pub record IsLexFaultOf (input : List ℕ) (fault : LexFault) : Type 0 where
   pub at : ℕ
   pub lexemes : List Lexeme
-  pub leads : Leads lexemes input (drop at input)
+  pub leads : StartsWithLexemes lexemes input (drop at input)
   pub refuses : Refuses (drop at input) (place_of input at) fault
+
+-- the input has a fault
+abbrev pub HasLexFault : List ℕ → Type 0
+HasLexFault input = (fault : LexFault) × IsLexFaultOf input fault
 
 -- what may be answered of an input: its tokens, its fault, or that memory ran out
 abbrev pub AnswersTokens : List ℕ → Result (List Token) LexFault → Type 0
 AnswersTokens input (Ok tokens) = IsTokens input tokens
 AnswersTokens input (Err Memory) = Unit {0}
-AnswersTokens input (Err fault) = IsFaultOf input fault
+AnswersTokens input (Err fault) = IsLexFaultOf input fault

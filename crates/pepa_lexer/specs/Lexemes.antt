@@ -67,11 +67,11 @@ EndsBefore (Pointed digits behind) rest = begins is_word_byte rest ≡ false
 EndsBefore (Mark sign) rest = begins (goes_on sign) rest ≡ false
 
 -- the lexemes stand in front of the bytes, and `rest` behind them
-abbrev pub Leads : List Lexeme → List ℕ → List ℕ → Type 0
-Leads [] bytes rest = bytes ≡ rest
-Leads (lexeme ∷ lexemes) bytes rest =
-    (more : List ℕ) × (bytes ≡ spelled lexeme ++ more) × IsLexeme lexeme × EndsBefore lexeme more × Leads lexemes more rest
+abbrev pub StartsWithLexemes : List Lexeme → List ℕ → List ℕ → Type 0
+StartsWithLexemes [] bytes rest = bytes ≡ rest
+StartsWithLexemes (lexeme ∷ lexemes) bytes rest =
+    (more : List ℕ) × (bytes ≡ spelled lexeme ++ more) × IsLexeme lexeme × EndsBefore lexeme more × StartsWithLexemes lexemes more rest
 
 -- the lexemes of the bytes
 abbrev pub AreLexemes : List Lexeme → List ℕ → Type 0
-AreLexemes lexemes bytes = Leads lexemes bytes []
+AreLexemes lexemes bytes = StartsWithLexemes lexemes bytes []

@@ -5,3 +5,4 @@ pub mod TokenLists
 pub mod Faults
 pub mod Scans
 pub mod TokenTexts
+pub mod AtMost

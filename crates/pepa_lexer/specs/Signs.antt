@@ -1,5 +1,5 @@
 -- The signs, as bytes.
-use Rattle.std.specs.Prelude.{◌≡◌, ℕ, Bool, false, ◌&&◌, ◌||◌, List, ◌++◌, length, ◌==◌, if◌then◌else◌, codes, Option, Some, None}
+use Rattle.std.specs.Prelude.{◌≡◌, ◌≢◌, ℕ, Bool, false, ◌&&◌, ◌||◌, List, [], ◌∷◌, ◌++◌, MatchOption, length, ◌==◌, if◌then◌else◌, codes, Option, Some, None}
 use Rattle.pepa_lexer.specs.Bytes.{begins}
 use Rattle.pepa_lexer.specs.declared.kinds.Sign.{Sign}
 use Rattle.pepa_lexer.specs.declared.kinds.Sign.TheVariants.{Equals, Semicolon, Opening, Closing, Comma, Dot, Plus, Minus, Star, Slash, Less, Greater, LessOrEqual, GreaterOrEqual, EqualTo, NotEqualTo, Not, And, Or, Bar, OpeningBrace, ClosingBrace, OpeningBracket, ClosingBracket, Colon, DoubleColon, Question}
@@ -82,9 +82,20 @@ sign_of_byte byte =
     else (if byte == 63 then Some Question
     else None)))))))))))))))))))
 
--- the longest sign in front of bytes, and its length, or that no sign stands there
+-- the longest sign in front of bytes, and its length
 pub record IsLongestSign (bytes : List ℕ) (sign : Sign) (len : ℕ) : Type 0 where
   pub rest : List ℕ
   pub whole : bytes ≡ sign_bytes sign ++ rest
   pub len_is : len ≡ length (sign_bytes sign)
   pub ends : begins (goes_on sign) rest ≡ false
+
+-- whether a sign of two bytes stands in front of bytes
+abbrev pub FindsPair : List ℕ → Option Sign → Type 0
+FindsPair bytes answer =
+    MatchOption answer ((first second : ℕ) (more : List ℕ) → bytes ≡ first ∷ second ∷ more → sign_of_pair first second ≡ None)
+    (λ sign. (more : List ℕ) × (bytes ≡ sign_bytes sign ++ more) × ((first second : ℕ) × (sign_bytes sign ≡ first ∷ second ∷ [])))
+
+-- the longest sign in front of bytes, with its length, or that no sign stands there
+abbrev pub FindsLongestSign : List ℕ → Option (Sign × ℕ) → Type 0
+FindsLongestSign bytes answer =
+    MatchOption answer ((sign : Sign) (rest : List ℕ) → bytes ≢ sign_bytes sign ++ rest) (λ found. IsLongestSign bytes found.0 found.1)

@@ -20,12 +20,12 @@ pub record IsDecimal (text : List ℕ) (digits scale : ℕ) : Type 0 where
   pub count : scale ≡ length behind
 
 -- the bytes are a token of this kind
-abbrev pub IsTextOf : Kind → List ℕ → Type 0
-IsTextOf Small text = IsWord text × (begins is_capital text ≡ false)
-IsTextOf Capital text = IsWord text × (begins is_capital text ≡ true)
-IsTextOf (Number digits scale) text = ((scale ≡ 0) × AreDigits text × (digits ≡ digits_value 10 text)) ⊎ IsDecimal text digits scale
-IsTextOf (Sign sign) text = text ≡ sign_bytes sign
-IsTextOf End text = text ≡ []
+abbrev pub IsTokenText : Kind → List ℕ → Type 0
+IsTokenText Small text = IsWord text × (begins is_capital text ≡ false)
+IsTokenText Capital text = IsWord text × (begins is_capital text ≡ true)
+IsTokenText (Number digits scale) text = ((scale ≡ 0) × AreDigits text × (digits ≡ digits_value 10 text)) ⊎ IsDecimal text digits scale
+IsTokenText (Sign sign) text = text ≡ sign_bytes sign
+IsTokenText End text = text ≡ []
 
 -- the tokens stand in the input one behind the other, from this byte on, each with its bytes and its place
 abbrev pub AreInOrder : List ℕ → ℕ → List Token → Type 0
@@ -33,6 +33,6 @@ AreInOrder input at [] = Unit {0}
 AreInOrder input at (token ∷ tokens) =
     (at ≤ token.from)
     × (token.to ≤ length input)
-    × IsTextOf token.kind (slice_range input token.from token.to)
+    × IsTokenText token.kind (slice_range input token.from token.to)
     × (token.place ≡ place_of input token.from)
     × AreInOrder input token.to tokens

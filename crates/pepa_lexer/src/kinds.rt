@@ -1,3 +1,5 @@
+//! Tokens and their kinds, places, and why a text has no tokens.
+
 ghost use Rattle.std.specs.Prelude.{◌≡◌};
 
 use sqlite_items::Items;

@@ -1,6 +1,8 @@
-ghost use Rattle.std.specs.Prelude.{◌≡◌, ◌≢◌, ℕ, ◌==◌, false, List, ◌∷◌, [], ◌++◌, IfSome, MatchOption};
+//! Signs in front of a text.
+
+ghost use Rattle.std.specs.Prelude.{◌≡◌, ◌==◌, false, ◌∷◌, [], IfSome};
 ghost use Rattle.pepa_lexer.specs.Bytes.{begins};
-ghost use Rattle.pepa_lexer.specs.Signs.{sign_bytes, sign_of_byte, sign_of_pair, IsLongestSign};
+ghost use Rattle.pepa_lexer.specs.Signs.{sign_bytes, sign_of_byte, sign_of_pair, FindsPair, FindsLongestSign};
 
 use crate::kinds::Sign;
 
@@ -53,7 +55,7 @@ fn sign_of_byte(byte: u8) -> Option<Sign>
 
 /// The sign of the first two bytes, if they are one.
 fn pair_in_front(text: &[u8]) -> Option<Sign>
-    ensures { MatchOption result ((first second : ℕ) (more : List ℕ) → text.now ≡ first ∷ second ∷ more → sign_of_pair first second ≡ None) (λ sign. (more : List ℕ) × (text.now ≡ sign_bytes sign ++ more) × ((first second : ℕ) × (sign_bytes sign ≡ first ∷ second ∷ []))) }
+    ensures { FindsPair text.now result }
 {
     match text {
         [first, second, ..] => sign_of_pair(*first, *second),
@@ -64,7 +66,7 @@ fn pair_in_front(text: &[u8]) -> Option<Sign>
 /// The longest sign in front of a text that begins with no `/`, and its length.
 pub(crate) fn sign_in_front(text: &[u8]) -> Option<(Sign, usize)>
     requires { begins (λ byte. byte == 47) text.now ≡ false }
-    ensures { MatchOption result ((sign : Sign) (rest : List ℕ) → text.now ≢ sign_bytes sign ++ rest) (λ found. IsLongestSign text.now found.0 found.1) }
+    ensures { FindsLongestSign text.now result }
 {
     if let Some(sign) = pair_in_front(text) {
         return Some((sign, 2));

@@ -2,3 +2,4 @@ pub mod TransitionLists
 pub mod OneList
 pub mod ModelLaws
 pub mod DistinctLeaves
+pub mod LeafLookup

@@ -3,7 +3,7 @@ use Rattle.std.proofs.Common.{◌≡◌, ℕ, List, [], ◌∷◌, ◌⊎◌, in
 use Rattle.std.specs.List.{AllByRecursion, AllZip}
 use Rattle.pepa_rates.specs.declared.rate.RateFault.{RateFault}
 use Rattle.pepa_model.specs.Expression.{Expression, Const, Prefixed, Chosen, Definition, Defines}
-use Rattle.pepa_model.specs.Derivation.{Derivation, ByPrefix, ByLeft, ByRight, ByConstant, Transition, Concludes, Precedes, InDerivationOrder, Among, IsTransitionList}
+use Rattle.pepa_model.specs.Derivation.{Derivation, ByPrefix, ByLeft, ByRight, ByConstant, Transition, Concludes, Precedes, InDerivationOrder, Among, IsComponentTransitionList}
 use Rattle.pepa_model.specs.Opened.{Opened, OpenPrefix, OpenChoice, OpenConst, Opens}
 use Rattle.pepa_model.specs.Apparent.{Apparent, NoRate, Rated, Undefined, IsFine, HasFault}
 
@@ -92,7 +92,7 @@ module _ (definitions : List Definition) (e : Expression) where
   has_conclusion d (x ∷ ds) (t ∷ ts) h (inl same) = (t, subst (λ (x : Derivation). Concluded x t) (sym same) h.0)
   has_conclusion d (x ∷ ds) (t ∷ ts) h (inr k) = has_conclusion d ds ts h.1 k
 
-  within : (ts us : List Transition) (x : IsTransitionList definitions e ts) (y : IsTransitionList definitions e us) → Within x.derivations y.derivations
+  within : (ts us : List Transition) (x : IsComponentTransitionList definitions e ts) (y : IsComponentTransitionList definitions e us) → Within x.derivations y.derivations
   within ts us x y d among =
       let (t, concluded) = has_conclusion d x.derivations ts x.conclusions among in
       y.complete d t concluded
@@ -106,12 +106,12 @@ module _ (definitions : List Definition) (e : Expression) where
   same_conclusions (d ∷ ds) (t ∷ ts) (u ∷ us) h k =
       ap (λ (x : Transition). x ∷ ts) (same_conclusion definitions d e t u h.0 k.0) ∙ ap (λ (l : List Transition). u ∷ l) (same_conclusions ds ts us h.1 k.1)
 
-  same_list : (ts us : List Transition) → IsTransitionList definitions e ts → IsTransitionList definitions e us → ts ≡ us
+  same_list : (ts us : List Transition) → IsComponentTransitionList definitions e ts → IsComponentTransitionList definitions e us → ts ≡ us
   same_list ts us x y =
       let same = same_derivations x.derivations y.derivations x.in_order y.in_order (within ts us x y) (within us ts y x) in
       same_conclusions x.derivations ts us x.conclusions (subst (λ (ds : List Derivation). AllZip Concluded ds us) (sym same) y.conclusions)
 
-pub one_list : (definitions : List Definition) (e : Expression) (ts us : List Transition) → IsTransitionList definitions e ts → IsTransitionList definitions e us → ts ≡ us
+pub one_list : (definitions : List Definition) (e : Expression) (ts us : List Transition) → IsComponentTransitionList definitions e ts → IsComponentTransitionList definitions e us → ts ≡ us
 one_list definitions e ts us x y = same_list definitions e ts us x y
 
 -- ---- trees, and faults

@@ -2,7 +2,7 @@
 use Rattle.std.proofs.Common.{◌≡◌, ℕ, List, [], ◌∷◌, ◌++◌, map, inl, inr, refl, sym, ap, subst}
 use Rattle.std.specs.List.{AllByRecursion, AllZip}
 use Rattle.pepa_model.specs.Expression.{Expression, Const, Prefixed, Chosen, Definition, Defines}
-use Rattle.pepa_model.specs.Derivation.{Derivation, ByPrefix, ByLeft, ByRight, ByConstant, Transition, leaf_transition, Concludes, Precedes, InDerivationOrder, Among, IsTransitionList}
+use Rattle.pepa_model.specs.Derivation.{Derivation, ByPrefix, ByLeft, ByRight, ByConstant, Transition, leaf_transition, Concludes, Precedes, InDerivationOrder, Among, IsComponentTransitionList}
 use Rattle.pepa_model.specs.Opened.{Opened, OpenPrefix, OpenChoice, OpenConst, Opens, moves}
 
 -- lists of derivations
@@ -117,7 +117,7 @@ module _ (definitions : List Definition) where
   complete e (OpenConst c p) (e_is, (body, defined, opens_body)) d t k =
       constant_only d c body (derivations_of p) t defined (complete body p opens_body) (subst (λ e. Concludes definitions d e t) e_is k)
 
-  pub transition_list : (e : Expression) (o : Opened) → Opens definitions e o → IsTransitionList definitions e (moves o)
+  pub transition_list : (e : Expression) (o : Opened) → Opens definitions e o → IsComponentTransitionList definitions e (moves o)
   transition_list e o opens = record {
     derivations = derivations_of o;
     conclusions = conclusions e o opens;

@@ -4,7 +4,7 @@ use Rattle.pepa_rates.specs.declared.rate.Rate.{Rate}
 use Rattle.pepa_rates.specs.declared.rate.RateFault.{RateFault}
 use Rattle.pepa_rates.specs.declared.rate.RateFault.TheVariants.{Mixed, Overflow}
 use Rattle.pepa_rates.specs.Fraction.{InRange}
-use Rattle.pepa_rates.specs.Sum.{Sum, Adds, NoSum, rate_sum, fraction_of}
+use Rattle.pepa_rates.specs.Sum.{RateSum, Adds, NoSum, rate_sum, fraction_of}
 use Rattle.pepa_model.specs.Opened.{Opened, OpenPrefix, OpenChoice, OpenConst}
 
 -- a component may not perform the action at all, may perform it at a rate, or have no rate for it, where an active and a
@@ -14,7 +14,7 @@ pub data Apparent : Type 0 where
   Rated : Rate → Apparent
   Undefined : Apparent
 
-abbrev pub apparent_of_sum : Sum → Apparent
+abbrev pub apparent_of_sum : RateSum → Apparent
 apparent_of_sum (Adds r) = Rated r
 apparent_of_sum NoSum = Undefined
 

@@ -51,7 +51,7 @@ Among x [] = ⊥
 Among x (y ∷ ys) = (x ≡ y) ⊎ Among x ys
 
 -- the transition list of a component has the conclusion of each of its derivations, each derivation once, in derivation order
-pub record IsTransitionList (definitions : List Definition) (e : Expression) (transitions : List Transition) : Type 0 where
+pub record IsComponentTransitionList (definitions : List Definition) (e : Expression) (transitions : List Transition) : Type 0 where
   pub derivations : List Derivation
   pub conclusions : AllZip (λ d t. Concludes definitions d e t) derivations transitions
   pub complete : (d : Derivation) (t : Transition) → Concludes definitions d e t → Among d derivations

@@ -17,8 +17,8 @@ each_once same [] = []
 each_once same (x ∷ xs) = x ∷ without same x (each_once same xs)
 
 -- an element's place, or 0 if it has none
-abbrev pub place_of : {X : Type 0} → (X → X → Bool) → List X → X → ℕ
-place_of same xs x = unwrap_or (position (same x) xs) 0
+abbrev pub position_of : {X : Type 0} → (X → X → Bool) → List X → X → ℕ
+position_of same xs x = unwrap_or (position (same x) xs) 0
 
 -- whether two rates are equal
 abbrev pub same_rate : Rate → Rate → Bool

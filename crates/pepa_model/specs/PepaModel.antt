@@ -5,7 +5,7 @@ use Rattle.std.specs.List.Sorted.{IsStrictlyIncreasing}
 use Rattle.pepa_rates.specs.declared.rate.Rate.{Rate}
 use Rattle.pepa_rates.specs.declared.rate.Rate.TheVariants.{Active, Passive}
 use Rattle.pepa_model.specs.Expression.{Expression, Const, Prefixed, Chosen, Shape, LeafShape, ConstShape, CoopShape, HideShape, Definition, IsCompound}
-use Rattle.pepa_model.specs.Derivation.{Transition, IsTransitionList, Among}
+use Rattle.pepa_model.specs.Derivation.{Transition, IsComponentTransitionList, Among}
 use Rattle.pepa_model.specs.Opened.{Opened, Opens, moves, height}
 use Rattle.pepa_model.specs.Expanded.{Expanded, Expands, leaves_in, nodes_in, height_of}
 use Rattle.pepa_model.specs.Leaves.{each_once, leaves_of, set_numbers, action_numbers}
@@ -34,7 +34,7 @@ pub record StandsForTransition (leaves : List Expression) (activity : Activity) 
 
 -- the activities are the transition list of this leaf
 abbrev pub AreTransitionsOf : PepaModel → Expression → List Activity → Type 0
-AreTransitionsOf m e activities = (transitions : List Transition) × IsTransitionList m.bodies e transitions × AllZip (StandsForTransition m.leaves) activities transitions
+AreTransitionsOf m e activities = (transitions : List Transition) × IsComponentTransitionList m.bodies e transitions × AllZip (StandsForTransition m.leaves) activities transitions
 
 -- the constants and action types of an expression are numbers of the model
 abbrev pub IsNamed : PepaModel → Expression → Type 0

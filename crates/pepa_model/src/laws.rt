@@ -2,14 +2,14 @@
 ghost use Rattle.std.specs.Prelude.{◌≡◌, ℕ, List, Some, slice_get};
 ghost use Rattle.std.specs.Bool.{Decides};
 ghost use Rattle.pepa_model.specs.Expression.{Expression, Shape, Definition, IsCompound};
-ghost use Rattle.pepa_model.specs.Derivation.{Transition, IsTransitionList};
+ghost use Rattle.pepa_model.specs.Derivation.{Transition, IsComponentTransitionList};
 ghost use Rattle.pepa_model.specs.Leaves.{same_expression};
 ghost use Rattle.pepa_model.specs.PepaModel.{PepaModel, HasTree, IsModel};
 ghost use Rattle.pepa_model.specs.ModelLaws.{HasActivities, OpensLow};
 
 /// A sequential component has at most one transition list: its derivations and their order determine it.
 pub fn one_transition_list()
-    ensures { (definitions : List Definition) (e : Expression) (x y : List Transition) → IsTransitionList definitions e x → IsTransitionList definitions e y → x ≡ y }
+    ensures { (definitions : List Definition) (e : Expression) (x y : List Transition) → IsComponentTransitionList definitions e x → IsComponentTransitionList definitions e y → x ≡ y }
 {}
 
 /// At each leaf's number there are its activities, and each of them leads to a leaf.

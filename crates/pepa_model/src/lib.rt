@@ -10,5 +10,5 @@ pub use model::{MAX_HEIGHT, Model};
 pub use name::Name;
 pub use term::{
     Activity, ActivityList, ActivityLists, Bodies, Body, Sequential, SequentialList, Shape2, Step,
-    StepList, Term, Words32, Words32List, leaf_count,
+    StepList, TAU, Term, Words32, Words32List, leaf_count,
 };

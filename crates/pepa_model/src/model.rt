@@ -1,5 +1,8 @@
+//! A model that passed every check, and what its parts are.
 ghost use Rattle.std.specs.Prelude.{◌≡◌, ℕ, ◌<◌, Some, length, slice_get};
-ghost use Rattle.pepa_model.specs.Expression.{Expression, Defines, IsSequential, expression_of};
+ghost use Rattle.std.specs.List.{All};
+ghost use Rattle.std.specs.List.Sorted.{IsStrictlyIncreasing};
+ghost use Rattle.pepa_model.specs.Expression.{Expression, Shape, Defines, IsSequential, IsCompound, expression_of, shape_of};
 ghost use Rattle.pepa_model.specs.PepaModel.{IsModel, AreTransitionsOf};
 
 use crate::name::Name;
@@ -44,8 +47,8 @@ impl std::marker::Model for Model {
 }
 
 impl Model {
-    /// The model's invariant, for a caller that needs it.
-    pub fn is_sound(&self)
+    /// Costs nothing: it hands the model's invariant to a proof.
+    pub fn recall_invariant(&self)
         ensures { IsModel self.now }
     {
         let _sets = &self.sets;
@@ -101,5 +104,45 @@ impl Model {
     {
         let lists = &self.activities;
         lists.as_slice()[leaf as usize].as_slice()
+    }
+    /// The action types of a set, in ascending order.
+    pub fn set(&self, set: u32) -> &[u32]
+        requires { set < length self.now.sets }
+        ensures stored { slice_get self.now.sets set ≡ Some result.now }
+        ensures ascends { IsStrictlyIncreasing result.now }
+        ensures known { All (λ a. a < length self.now.actions) result.now }
+    {
+        let sets = &self.sets;
+        sets.as_slice()[set as usize].as_slice()
+    }
+
+    /// The system.
+    pub fn system(&self) -> &Shape2
+        ensures { shape_of result.now ≡ self.now.system }
+    {
+        &self.system
+    }
+
+    /// The system that a compound constant stands for.
+    pub fn compound_system(&self, constant: u32) -> &Shape2
+        requires { (shape : Shape) × IsCompound self.now.bodies constant shape }
+        ensures { IsCompound self.now.bodies constant (shape_of result.now) }
+    {
+        let bodies = &self.bodies;
+        bodies.as_slice()[constant as usize].system()
+    }
+
+    /// The number of the leaf that the component is. It compares the component with the leaves before it.
+    pub fn leaf_number(&self, component: &Sequential) -> u32
+        requires { (leaf : ℕ) × (slice_get self.now.leaves leaf ≡ Some (expression_of component.now)) }
+        ensures { slice_get self.now.leaves result ≡ Some (expression_of component.now) }
+    {
+        let leaves = &self.leaves;
+        for number in 0..leaves.len() as u32 {
+            if self.leaf(number).is_same(component) {
+                return number;
+            }
+        }
+        unreachable!()
     }
 }

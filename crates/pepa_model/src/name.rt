@@ -1,3 +1,4 @@
+//! Names of constants and of action types, as they are spelled.
 ghost use Rattle.std.specs.Prelude.{◌≡◌, IfOk};
 ghost use Rattle.std.specs.Hash as fed;
 ghost use Rattle.std.specs.Prelude.{nat_eq};

@@ -1,10 +1,15 @@
+//! Components, systems, terms, activities and transitions, with numbers in place of names.
 ghost use Rattle.std.specs.Prelude.{◌≡◌, ◌<◌, ◌^◌, IfOk};
-ghost use Rattle.pepa_model.specs.Expression.{Expression, Sequentially, expression_of, definition_of};
+ghost use Rattle.pepa_model.specs.Expression.{Expression, Shape, Sequentially, Compoundly, expression_of, definition_of, shape_of};
+ghost use Rattle.pepa_model.specs.Leaves.{same_expression};
 ghost use Rattle.pepa_model.specs.Terms.{term_of, leaf_count_of};
 
 use pepa_rates::Rate;
 use sqlite_items::Items;
 use std::alloc::{AllocError, Global};
+
+/// The number of the action type `tau`.
+pub const TAU: u32 = 0;
 
 /// A sequential component: what one participant can do.
 #[derive(Debug, Drop)]
@@ -50,7 +55,39 @@ pub enum Term {
     Hide(Box<Term>, u32),
 }
 
+impl Sequential {
+    /// Whether two components are equal.
+    pub fn is_same(&self, other: &Sequential) -> bool
+        ensures { result ≡ same_expression (expression_of self.now) (expression_of other.now) }
+    {
+        match (self, other) {
+            (Sequential::Constant(constant), Sequential::Constant(its_constant)) => {
+                constant == its_constant
+            }
+            (
+                Sequential::Prefix(action, rate, next),
+                Sequential::Prefix(its_action, its_rate, its_next),
+            ) => action == its_action && rate == its_rate && next.is_same(its_next),
+            (Sequential::Choice(left, right), Sequential::Choice(its_left, its_right)) => {
+                left.is_same(its_left) && right.is_same(its_right)
+            }
+            _ => false,
+        }
+    }
+}
+
 impl Body {
+    /// The system on the right side, which is one.
+    pub fn system(&self) -> &Shape2
+        requires { (shape : Shape) × (definition_of self.now ≡ Compoundly shape) }
+        ensures { definition_of self.now ≡ Compoundly (shape_of result.now) }
+    {
+        match self {
+            Body::Compound(system) => system,
+            Body::Plain(_) => unreachable!(),
+        }
+    }
+
     /// The component on the right side, which isn't a system.
     pub fn component(&self) -> &Sequential
         requires { (e : Expression) × (definition_of self.now ≡ Sequentially e) }

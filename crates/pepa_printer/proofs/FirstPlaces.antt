@@ -12,7 +12,7 @@ use Rattle.pepa_model.specs.Leaves.{without, each_once}
 use Rattle.pepa_model.specs.PepaModel.{AreDistinct, AreByFirstPlaces}
 use Rattle.pepa_model.proofs.DistinctLeaves.{one_place}
 use Rattle.pepa_resolver.specs.Numbers.{first_places, place_in}
-use Rattle.pepa_resolver.proofs.Bodies.{contains_from_get}
+use Rattle.node_orders.proofs.Elements.{contains_from_get}
 use Rattle.pepa_resolver.proofs.NumberMeanings.{place_stands}
 
 -- ---- each thing once

@@ -1,17 +1,17 @@
 -- The numbers in what a model's constants stand for are the model's.
 use Rattle.std.proofs.Common.{◌≡◌, ℕ, zero, suc, ◌+◌, ◌<◌, Bool, true, false, cond, not, nat_eq, List, [], ◌∷◌, ◌++◌, length, Some, slice_get, inl, inr, refl, sym, ap, ◌∙◌, subst, arith}
 use Rattle.std.specs.Bool.{Decides}
-use Rattle.std.specs.List.{All, flat_map, range_with_len}
+use Rattle.std.specs.List.{flat_map, range_with_len}
 use Rattle.std.proofs.lemmas.Bool.{false≢true}
 use Rattle.std.proofs.lemmas.Bool.Decides.{Decides-eqb}
-use Rattle.std.proofs.lemmas.List.Elements.{All-from_recursion}
 use Rattle.std.proofs.lemmas.Option.{slice_get_within, same_Some}
-use Rattle.pepa_model.specs.Expression.{Expression, Const, LeafShape, ConstShape, Definition, Sequentially, Compoundly, Defines}
+use Rattle.pepa_model.specs.Expression.{Expression, Const, Definition, Sequentially, Compoundly, Defines}
 use Rattle.pepa_model.specs.Derivation.{Among}
 use Rattle.pepa_model.specs.Opened.{Opened, Opens, OpenPrefix, OpenChoice, OpenConst}
 use Rattle.pepa_model.specs.Leaves.{without, each_once, same_expression, followers, components_defined, sequential_constants, components, actions_in, actions_defined, actions_of_shape, action_numbers}
-use Rattle.pepa_model.specs.PepaModel.{PepaModel, IsModel, IsNamed, IsShapeOf}
+use Rattle.pepa_model.specs.PepaModel.{PepaModel, IsModel, IsNamed}
 use Rattle.pepa_model.proofs.DistinctLeaves.{same_expression-Decides}
+use Rattle.pepa_text.proofs.ModelNumbers.{defined_known}
 use Rattle.pepa_printer.specs.KnownBodies.{IsBodyOf}
 
 -- ---- elements of lists
@@ -74,9 +74,6 @@ constant_among from (suc i) c (Compoundly shape ∷ definitions) e at is = const
 -- ---- the numbers of a model
 
 module _ (m : PepaModel) (sound : IsModel m) where
-  defined_known : (c : ℕ) (d : Definition) → slice_get m.bodies c ≡ Some d → c < length m.constants
-  defined_known c d at = subst (λ (n : ℕ). c < n) sound.bodies (slice_get_within m.bodies c d at)
-
   leaf_among : (e : Expression) → Among e (sequential_constants 0 m.bodies ++ (flat_map components_defined m.bodies ++ components m.system)) → Among e m.leaves
   leaf_among e h =
       subst (λ (leaves : List Expression). Among e leaves) (sym sound.numbered.leaves_by_place)
@@ -113,7 +110,7 @@ module _ (m : PepaModel) (sound : IsModel m) where
         opened_named q y right (λ f h. known.0 f (among_right f (followers x) (followers y) h), λ a h. known.1 a (among_right a (actions_in x) (actions_in y) h)),
       ))
   opened_named (OpenConst c p) e (is, (body, defines, opens)) =
-      subst (λ (e : Expression). HasKnownParts e → IsNamed m e) (sym is) (λ known. defined_known c (Sequentially body) defines)
+      subst (λ (e : Expression). HasKnownParts e → IsNamed m e) (sym is) (λ known. defined_known m sound c (Sequentially body) defines)
 
   -- a sequential body opens, since its constant is a leaf
   body_opens : (c : ℕ) (e : Expression) (o : Opened) → Defines m.bodies c e → Opens m.bodies (Const c) o → (p : Opened) × Opens m.bodies e p
@@ -131,12 +128,3 @@ module _ (m : PepaModel) (sound : IsModel m) where
       let (p, opens) = body_opens c e leaf.opened at leaf.opens in
       opened_named p e opens (λ f h. follower_named c e f at h, λ a h. action_known c e a at h)
   body_known c (Compoundly shape) at = (sound.compounds c shape at).is_shape
-
-  pub leaf_named : (e : Expression) → IsShapeOf m (LeafShape e) → IsNamed m e
-  leaf_named e (number, at) = (sound.leaves number e at).named
-
-  pub constant_known : (c : ℕ) → IsShapeOf m (ConstShape c) → c < length m.constants
-  constant_known c (shape, at) = defined_known c (Compoundly shape) at
-
-  pub set_known : (number : ℕ) (set : List ℕ) → slice_get m.sets number ≡ Some set → All (λ a. a < length m.actions) set
-  set_known number set at = All-from_recursion (λ a. a < length m.actions) set (sound.sets number set at).known

@@ -9,12 +9,14 @@ use Rattle.pepa_lexer.specs.declared.kinds.Token.{Token}
 use Rattle.pepa_reader.specs.Trees.{ProcessNode, ConstantAt, PrefixAt, ChoiceOf, CoopAt, HideOf, ProcessLineNode, FileNode}
 use Rattle.pepa_model.specs.Expression.{Expression, Const, Prefixed, Chosen, Shape, LeafShape, ConstShape, CoopShape, HideShape, Definition, Sequentially, Compoundly}
 use Rattle.pepa_model.specs.PepaModel.{PepaModel, IsModel, IsNamed, IsShapeOf, IsSpelled}
-use Rattle.pepa_resolver.specs.Parts.{name_at, constants_in, RateSite, rates_in, set_words_in, processes_of}
-use Rattle.pepa_printer.specs.ComponentText.{name_of}
-use Rattle.pepa_printer.specs.ModelText.{set_of}
+use Rattle.token_grammar.specs.Terminals.{name_at}
+use Rattle.pepa_resolver.specs.Parts.{constants_in, RateSite, rates_in, set_words_in, processes_of}
+use Rattle.pepa_text.specs.ComponentText.{name_of}
+use Rattle.pepa_text.specs.SetText.{set_of}
 use Rattle.pepa_printer.specs.KnownBodies.{IsBodyOf}
 use Rattle.pepa_model.specs.Spelling.{IsWrittenRate, HasWrittenRates, HasWrittenShape, HasWrittenDefinition}
-use Rattle.pepa_printer.proofs.KnownBodies.{leaf_named, constant_known, body_known}
+use Rattle.pepa_printer.proofs.KnownBodies.{body_known}
+use Rattle.pepa_text.proofs.ModelNumbers.{leaf_named, constant_known}
 use Rattle.pepa_printer.proofs.PrintedFiles.{IsRateAt, IsExpressionAt, IsShapeAt, IsDefinitionAt, AreLinesAt, IsPrintedFile}
 
 module _ (input : List ℕ) (tokens : List Token) (m : PepaModel) where

@@ -5,7 +5,7 @@ use Rattle.std.specs.Str.Parse.{digits_value}
 use Rattle.std.proofs.lemmas.List.{take_at, drop_at, drop-drop}
 use Rattle.pepa_lexer.specs.Bytes.{is_capital, is_word_byte, begins}
 use Rattle.pepa_lexer.specs.Signs.{sign_bytes, goes_on}
-use Rattle.pepa_lexer.specs.Lexemes.{Lexeme, Blank, Word, Whole, Mark, spelled, IsLexeme, EndsBefore, Leads, AreLexemes}
+use Rattle.pepa_lexer.specs.Lexemes.{Lexeme, Blank, Word, Whole, Mark, spelled, IsLexeme, EndsBefore, StartsWithLexemes, AreLexemes}
 use Rattle.pepa_lexer.specs.TokenLists.{place_of, kind_of, token_at, tokens_along, end_of}
 use Rattle.pepa_lexer.specs.declared.kinds.Kind.{Kind}
 use Rattle.pepa_lexer.specs.declared.kinds.Kind.TheVariants as kinds
@@ -51,7 +51,7 @@ end_text : (input : List ℕ) (n : ℕ) → slice_range input n n ≡ []
 end_text input n = let none : n - n ≡ 0 = omega arith in rw none refl
 
 -- the tokens from a place on are the pieces of the lexemes from there on
-pieces_along : (input : List ℕ) (lexemes : List Lexeme) (bytes : List ℕ) (at : ℕ) → drop at input ≡ bytes → Leads lexemes bytes []
+pieces_along : (input : List ℕ) (lexemes : List Lexeme) (bytes : List ℕ) (at : ℕ) → drop at input ≡ bytes → StartsWithLexemes lexemes bytes []
     → map (piece_of input) (tokens_along input at lexemes ++ end_of input) ≡ pieces_of lexemes
 pieces_along input [] bytes at e leads =
     one_token input [] (Some kinds.End) (place_of input (length input)) (length input) (length input) [] [] (end_text input (length input)) refl

@@ -4,14 +4,17 @@ use Rattle.pepa_lexer.specs.declared.kinds.Kind.TheVariants as kinds
 use Rattle.pepa_lexer.specs.declared.kinds.Sign.TheVariants.{Equals, Semicolon}
 use Rattle.pepa_model.specs.Expression.{Shape, LeafShape, ConstShape, CoopShape, HideShape, Definition, Sequentially, Compoundly}
 use Rattle.pepa_model.specs.PepaModel.{PepaModel, IsModel, IsShapeOf, IsSpelled}
-use Rattle.pepa_printer.specs.ComponentText.{operand_text}
+use Rattle.pepa_text.specs.ComponentText.{operand_text}
 use Rattle.pepa_printer.specs.KnownBodies.{IsBodyOf}
-use Rattle.pepa_printer.specs.ModelText.{set_of, sign_text, hiding_text, is_cooperation, is_open, shape_text, definition_text, line_text, lines_text, model_text}
+use Rattle.pepa_text.specs.SetText.{set_of, sign_text, hiding_text}
+use Rattle.pepa_text.specs.SystemText.{written_shape, is_cooperation, is_bracketed, shape_text}
+use Rattle.pepa_printer.specs.ModelText.{definition_text, line_text, lines_text, model_text}
 use Rattle.pepa_model.specs.Spelling.{IsConstantName, HasWrittenShape, HasWrittenDefinition}
-use Rattle.pepa_printer.proofs.KnownBodies.{body_known, leaf_named, constant_known}
+use Rattle.pepa_printer.proofs.KnownBodies.{body_known}
+use Rattle.pepa_text.proofs.ModelNumbers.{leaf_named, constant_known, set_actions}
 use Rattle.pepa_printer.proofs.Pieces.{Piece, piece, sign_piece, capital_piece, operand_pieces, coop_pieces, hiding_pieces, shape_pieces, definition_pieces, line_pieces, lines_pieces, model_pieces}
 use Rattle.pepa_printer.proofs.Lexed.{Lexes, at_end, as_written, after_sign, after_lone, after_space, after_line_feed, after_capital}
-use Rattle.pepa_printer.proofs.LexedParts.{Prints, after_both, after_operand, set_actions, prints_constant, prints_expression, after_coop, after_hiding}
+use Rattle.pepa_printer.proofs.LexedParts.{Prints, after_both, after_operand, prints_constant, prints_expression, after_coop, after_hiding}
 
 module _ (m : PepaModel) (sound : IsModel m) (words : IsSpelled m) where
   -- ---- systems
@@ -22,19 +25,19 @@ module _ (m : PepaModel) (sound : IsModel m) (words : IsSpelled m) where
   prints_shape (CoopShape x y set) known rates = λ rest behind ends is.
       let sign = sign_text m (set_of m set) in
       let signs = coop_pieces m (set_of m set) in
-      let text = operand_text (is_cooperation y) (shape_text m y) in
-      let pieces = operand_pieces (is_cooperation y) (shape_pieces m y) in
-      let right = after_operand (is_cooperation y) (shape_text m y) (shape_pieces m y) (prints_shape y known.1 rates.1) rest behind ends is in
+      let text = operand_text (is_cooperation (written_shape m y)) (shape_text m y) in
+      let pieces = operand_pieces (is_cooperation (written_shape m y)) (shape_pieces m y) in
+      let right = after_operand (is_cooperation (written_shape m y)) (shape_text m y) (shape_pieces m y) (prints_shape y known.1 rates.1) rest behind ends is in
       as_written (shape_text m x ++ (32 ∷ (sign ++ (32 ∷ (text ++ rest))))) (shape_text m (CoopShape x y set) ++ rest)
       (shape_pieces m x ++ (signs ++ (pieces ++ behind))) (shape_pieces m (CoopShape x y set) ++ behind)
       (simp append_assoc) (simp append_assoc)
       (prints_shape x known.0 rates.0 (32 ∷ (sign ++ (32 ∷ (text ++ rest)))) (signs ++ (pieces ++ behind)) refl
       (after_space (sign ++ (32 ∷ (text ++ rest))) (signs ++ (pieces ++ behind))
-      (after_coop m sound words (set_of m set) (text ++ rest) (pieces ++ behind) (set_actions m sound words set known.2) (after_space (text ++ rest) (pieces ++ behind) right))))
+      (after_coop m sound words (set_of m set) (text ++ rest) (pieces ++ behind) (set_actions m sound set known.2) (after_space (text ++ rest) (pieces ++ behind) right))))
   prints_shape (HideShape x set) known rates = λ rest behind ends is.
-      let hidden = after_hiding m sound words (set_of m set) rest behind (set_actions m sound words set known.1) is in
-      after_both (operand_text (is_open x) (shape_text m x)) (hiding_text m (set_of m set)) rest (operand_pieces (is_open x) (shape_pieces m x)) (hiding_pieces m (set_of m set)) behind
-      (after_operand (is_open x) (shape_text m x) (shape_pieces m x) (prints_shape x known.0 rates)
+      let hidden = after_hiding m sound words (set_of m set) rest behind (set_actions m sound set known.1) is in
+      after_both (operand_text (is_bracketed (written_shape m x)) (shape_text m x)) (hiding_text m (set_of m set)) rest (operand_pieces (is_bracketed (written_shape m x)) (shape_pieces m x)) (hiding_pieces m (set_of m set)) behind
+      (after_operand (is_bracketed (written_shape m x)) (shape_text m x) (shape_pieces m x) (prints_shape x known.0 rates)
       (hiding_text m (set_of m set) ++ rest) (hiding_pieces m (set_of m set) ++ behind) refl hidden)
 
   -- ---- lines

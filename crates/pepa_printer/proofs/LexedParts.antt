@@ -11,8 +11,9 @@ use Rattle.pepa_lexer.specs.Signs.{goes_on}
 use Rattle.pepa_lexer.specs.declared.kinds.Sign.TheVariants.{Opening, Closing, Comma, Dot, Plus, Star, Slash, Less, Greater, Or, OpeningBrace, ClosingBrace}
 use Rattle.pepa_model.specs.Expression.{Expression, Const, Prefixed, Chosen}
 use Rattle.pepa_model.specs.PepaModel.{PepaModel, IsModel, IsNamed, IsSpelled}
-use Rattle.pepa_printer.specs.ComponentText.{fraction_text, is_one, rate_text, operand_text, name_of, is_choice, prefix_text, expression_text}
-use Rattle.pepa_printer.specs.ModelText.{further_text, set_text, set_of, sign_text, hiding_text}
+use Rattle.pepa_text.specs.RateText.{fraction_text, is_one, rate_text}
+use Rattle.pepa_text.specs.ComponentText.{operand_text, name_of, is_choice, prefix_text, expression_text}
+use Rattle.pepa_text.specs.SetText.{further_text, set_text, sign_text, hiding_text}
 use Rattle.pepa_model.specs.Spelling.{IsShortWord, IsWrittenRate, HasWrittenRates}
 use Rattle.pepa_printer.proofs.Pieces.{Piece, sign_piece, number_piece, small_piece, capital_piece, fraction_pieces, rate_pieces, operand_pieces, prefix_pieces, expression_pieces, further_pieces, set_pieces, coop_pieces, hiding_pieces}
 use Rattle.pepa_printer.proofs.DecimalDigits.{decimal_text}
@@ -103,9 +104,6 @@ module _ (m : PepaModel) (sound : IsModel m) (words : IsSpelled m) where
   action_word (suc a) within =
       let name = words.actions (suc a) (name_of m.actions (suc a)) (omega arith) (slice_get-get_or m.actions (suc a) [] within) in
       (name.0, name.1)
-
-  pub set_actions : (number : ℕ) → number < length m.sets → AllByRecursion (λ a. a < length m.actions) (set_of m number)
-  set_actions number within = (sound.sets number (set_of m number) (slice_get-get_or m.sets number [] within)).known
 
   pub prints_constant : (c : ℕ) → c < length m.constants → Prints (name_of m.constants c) (capital_piece (name_of m.constants c) ∷ [])
   prints_constant c within = λ rest behind ends is.

@@ -1,4 +1,3 @@
-pub mod Kept
 pub mod KnownBodies
 pub mod LineLists
 pub mod Pieces

@@ -3,7 +3,7 @@ use Rattle.std.proofs.Common.{◌≡◌, ℕ, zero, suc, ◌+◌, ◌<◌, List,
 use Rattle.std.proofs.lemmas.Option.{slice_get_within, same_Some}
 use Rattle.pepa_model.specs.Expression.{Definition}
 use Rattle.pepa_model.specs.PepaModel.{PepaModel}
-use Rattle.pepa_printer.specs.ComponentText.{name_of}
+use Rattle.pepa_text.specs.ComponentText.{name_of}
 use Rattle.pepa_printer.specs.ModelText.{line_text, lines_text}
 
 module _ (m : PepaModel) where

@@ -12,9 +12,9 @@ use Rattle.pepa_model.specs.Expanded.{leaves_in, nodes_in}
 use Rattle.pepa_model.specs.PepaModel.{PepaModel, IsModel, IsMixedAt, StandsForTransition}
 use Rattle.pepa_model.specs.declared.term.Activity.{Activity}
 use Rattle.pepa_model.proofs.DistinctLeaves.{one_number}
-use Rattle.pepa_resolver.proofs.Bodies.{contains_from_get}
+use Rattle.node_orders.proofs.Elements.{contains_from_get}
 use Rattle.pepa_checks.specs.Outline.{Outline}
-use Rattle.pepa_checks.specs.Activities.{leaf_number, activity_in, activities_in, HasActivities, HasNoMixed}
+use Rattle.pepa_checks.specs.Activities.{leaf_number, activity_in, activities_in, AreActivitiesOf, HasNoMixed}
 use Rattle.pepa_checks.specs.Limits.{PassesLimit}
 use Rattle.pepa_checks.proofs.LeafNumbers.{leaf_stands}
 use Rattle.pepa_checks.proofs.OneTree.{one_opening, one_expansion}
@@ -44,7 +44,7 @@ module _ (m : PepaModel) (sound : IsModel m) where
       ap (λ (b : Activity). b ∷ activities) (activity_is a t h.0) ∙ ap (λ (l : List Activity). activity_in m.leaves t ∷ l) (activities_are activities ts h.1)
 
   -- the list at a leaf's number is that of the leaf's activities
-  leaf_has : (number : ℕ) (e : Expression) → slice_get m.leaves number ≡ Some e → (list : List Activity) × (slice_get m.activities number ≡ Some list) × HasActivities (model_outline m) e list
+  leaf_has : (number : ℕ) (e : Expression) → slice_get m.leaves number ≡ Some e → (list : List Activity) × (slice_get m.activities number ≡ Some list) × AreActivitiesOf (model_outline m) e list
   leaf_has number e at =
       let leaf = sound.leaves number e at in
       (leaf.activities, leaf.stored, (leaf.opened, leaf.opens, activities_are leaf.activities (moves leaf.opened) leaf.stand))
@@ -52,7 +52,7 @@ module _ (m : PepaModel) (sound : IsModel m) where
 -- ---- the number of activities
 
 sums : (o : Outline) (leaves : List Expression) (opened : List Opened) (activities : List (List Activity)) → AllZip (Opens o.definitions) leaves opened
-    → AllZip (HasActivities o) leaves activities → sum_by (λ tree. length (moves tree)) opened ≡ sum_by length activities
+    → AllZip (AreActivitiesOf o) leaves activities → sum_by (λ tree. length (moves tree)) opened ≡ sum_by length activities
 sums o [] [] [] opens has = refl
 sums o [] [] (a ∷ activities) opens has = absurd has
 sums o [] (p ∷ opened) activities opens has = absurd opens
@@ -68,11 +68,11 @@ sums o (e ∷ leaves) (p ∷ opened) (a ∷ activities) opens has =
 
 -- ---- the model's outline
 
-pub has_activities : (m : PepaModel) → IsModel m → AllZip (HasActivities (model_outline m)) m.leaves m.activities
+pub has_activities : (m : PepaModel) → IsModel m → AllZip (AreActivitiesOf (model_outline m)) m.leaves m.activities
 has_activities m is =
-    zip_from (HasActivities (model_outline m)) m.leaves m.activities is.activities (λ n e list at_e at_list.
+    zip_from (AreActivitiesOf (model_outline m)) m.leaves m.activities is.activities (λ n e list at_e at_list.
     let found = leaf_has m is n e at_e in
-    subst (λ (l : List Activity). HasActivities (model_outline m) e l) (same_Some found.0 list (sym found.1 ∙ at_list)) found.2)
+    subst (λ (l : List Activity). AreActivitiesOf (model_outline m) e l) (same_Some found.0 list (sym found.1 ∙ at_list)) found.2)
 
 pub has_no_mixed : (m : PepaModel) → IsModel m → HasNoMixed (model_outline m)
 has_no_mixed m is number leaf at (opened, opens, (place, mixed)) =

@@ -7,7 +7,7 @@ use Rattle.pepa_model.specs.Expression.{Expression, Const, Chosen, Shape, Defini
 use Rattle.pepa_model.specs.Opened.{Opened, OpenPrefix, OpenChoice, OpenConst, Opens}
 use Rattle.pepa_model.specs.Leaves.{components, components_defined, sequential_constants, leaves_of}
 use Rattle.pepa_model.specs.PepaModel.{PepaModel, IsModel}
-use Rattle.pepa_resolver.proofs.Findings.{contains_here, contains_there}
+use Rattle.node_orders.proofs.Elements.{contains_here, contains_there}
 use Rattle.pepa_checks.proofs.LeafClosure.{leaf_to, component_leaf, defined_leaf}
 
 -- ---- how choices and constants open

@@ -1,8 +1,8 @@
 -- Parts of the grammar that pieces are, with their trees, and how they stand for one another.
 use Rattle.std.proofs.Common.{◌≡◌, ℕ, ◌+◌, List, [], ◌∷◌, refl, ap}
 use Rattle.pepa_lexer.specs.declared.kinds.Sign.TheVariants.{Opening, Closing}
-use Rattle.pepa_reader.specs.declared.terminal.Terminal.{Terminal}
-use Rattle.pepa_reader.specs.declared.terminal.Terminal.TheVariants.{Mark}
+use Rattle.token_grammar.specs.declared.terminal.Terminal.{Terminal}
+use Rattle.token_grammar.specs.declared.terminal.Terminal.TheVariants.{Mark}
 use Rattle.pepa_reader.specs.Grammar.{Process, OneChoice, Choice, OneHidden, Hidden, OnePrefix, Prefix, Grouped, process_spelled, choice_spelled, hidden_spelled, prefix_spelled}
 use Rattle.pepa_reader.specs.Trees.{ProcessNode, process_tree, choice_tree, hidden_tree, prefix_tree}
 use Rattle.pepa_printer.proofs.Pieces.{Piece, sign_piece, bracketed}

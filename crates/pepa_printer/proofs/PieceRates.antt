@@ -10,7 +10,7 @@ use Rattle.pepa_lexer.specs.declared.kinds.Token.{Token}
 use Rattle.pepa_reader.specs.Grammar as g
 use Rattle.pepa_reader.specs.Grammar.{rate_spelled}
 use Rattle.pepa_reader.specs.Trees.{rate_tree}
-use Rattle.pepa_printer.specs.ComponentText.{is_one}
+use Rattle.pepa_text.specs.RateText.{is_one}
 use Rattle.pepa_model.specs.Spelling.{IsWrittenRate}
 use Rattle.pepa_printer.proofs.Pieces.{Piece, sign_piece, number_piece, small_piece, rate_pieces}
 use Rattle.pepa_printer.proofs.PrintedFiles.{IsRateAt}

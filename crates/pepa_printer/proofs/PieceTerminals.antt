@@ -4,11 +4,10 @@ use Rattle.std.specs.Cmp.Lexicographic.{pointwise, bytes_decides}
 use Rattle.std.proofs.lemmas.List.{map-append, length-map}
 use Rattle.std.proofs.lemmas.Option.{same_Some}
 use Rattle.pepa_lexer.specs.declared.kinds.Token.{Token}
-use Rattle.pepa_reader.specs.declared.terminal.Terminal.{Terminal}
-use Rattle.pepa_reader.specs.declared.terminal.Terminal.TheVariants.{Small, Probe, Tau, Capital, Top}
+use Rattle.token_grammar.specs.declared.terminal.Terminal.{Terminal}
+use Rattle.token_grammar.specs.declared.terminal.Terminal.TheVariants.{Small, Probe, Tau, Capital, Top}
 use Rattle.pepa_reader.specs.Grammar.{Word, Named, Internal, Plain, Probing, word_spelled}
-use Rattle.pepa_reader.specs.Terminals.{small_terminal, capital_terminal, terminal_from, terminal_of, terminals}
-use Rattle.pepa_resolver.specs.Parts.{bytes_of, name_at}
+use Rattle.token_grammar.specs.Terminals.{small_terminal, capital_terminal, terminal_from, terminal_of, terminals, bytes_of, name_at}
 use Rattle.pepa_printer.proofs.Pieces.{Piece, piece_of}
 use Rattle.pepa_printer.proofs.PrintedFiles.{IsKindAt}
 

@@ -9,11 +9,13 @@ use Rattle.pepa_lexer.specs.declared.kinds.Kind.TheVariants as kinds
 use Rattle.pepa_lexer.specs.declared.kinds.Sign.{Sign}
 use Rattle.pepa_lexer.specs.declared.kinds.Sign.TheVariants.{Equals, Semicolon, Opening, Closing, Comma, Dot, Plus, Star, Slash, Less, Greater, Or, OpeningBrace, ClosingBrace}
 use Rattle.pepa_lexer.specs.declared.kinds.Token.{Token}
-use Rattle.pepa_reader.specs.Terminals.{text_of}
+use Rattle.token_grammar.specs.Terminals.{text_of}
 use Rattle.pepa_model.specs.Expression.{Expression, Const, Prefixed, Chosen, Shape, LeafShape, ConstShape, CoopShape, HideShape, Definition, Sequentially, Compoundly}
 use Rattle.pepa_model.specs.PepaModel.{PepaModel}
-use Rattle.pepa_printer.specs.ComponentText.{name_of, is_one, is_choice}
-use Rattle.pepa_printer.specs.ModelText.{set_of, is_cooperation, is_open}
+use Rattle.pepa_text.specs.ComponentText.{name_of, is_choice}
+use Rattle.pepa_text.specs.RateText.{is_one}
+use Rattle.pepa_text.specs.SetText.{set_of}
+use Rattle.pepa_text.specs.SystemText.{written_shape, is_cooperation, is_bracketed}
 
 -- a token without its place
 pub record Piece : Type 0 where
@@ -87,8 +89,9 @@ hiding_pieces m set = sign_piece Slash ∷ sign_piece OpeningBrace ∷ (set_piec
 abbrev pub shape_pieces : PepaModel → Shape → List Piece
 shape_pieces m (LeafShape e) = expression_pieces m e
 shape_pieces m (ConstShape c) = capital_piece (name_of m.constants c) ∷ []
-shape_pieces m (CoopShape x y set) = shape_pieces m x ++ (coop_pieces m (set_of m set) ++ operand_pieces (is_cooperation y) (shape_pieces m y))
-shape_pieces m (HideShape x set) = operand_pieces (is_open x) (shape_pieces m x) ++ hiding_pieces m (set_of m set)
+shape_pieces m (CoopShape x y set) =
+    shape_pieces m x ++ (coop_pieces m (set_of m set) ++ operand_pieces (is_cooperation (written_shape m y)) (shape_pieces m y))
+shape_pieces m (HideShape x set) = operand_pieces (is_bracketed (written_shape m x)) (shape_pieces m x) ++ hiding_pieces m (set_of m set)
 
 -- ---- lines
 

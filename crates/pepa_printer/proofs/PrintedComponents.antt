@@ -4,16 +4,15 @@ use Rattle.std.proofs.lemmas.Option.{slice_get-get_or}
 use Rattle.pepa_rates.specs.declared.rate.Rate.{Rate}
 use Rattle.pepa_lexer.specs.declared.kinds.Sign.TheVariants.{Opening, Closing, Comma, Dot, Plus}
 use Rattle.pepa_lexer.specs.declared.kinds.Token.{Token}
-use Rattle.pepa_reader.specs.declared.terminal.Terminal.{Terminal}
-use Rattle.pepa_reader.specs.declared.terminal.Terminal.TheVariants.{Mark, Capital}
+use Rattle.token_grammar.specs.declared.terminal.Terminal.{Terminal}
+use Rattle.token_grammar.specs.declared.terminal.Terminal.TheVariants.{Mark, Capital}
 use Rattle.pepa_reader.specs.Grammar as g
 use Rattle.pepa_reader.specs.Grammar.{word_spelled, rate_spelled, choice_spelled, prefix_spelled}
-use Rattle.pepa_reader.specs.Terminals.{small_terminal, capital_terminal}
+use Rattle.token_grammar.specs.Terminals.{small_terminal, capital_terminal, name_at}
 use Rattle.pepa_reader.specs.Trees.{ProcessNode}
 use Rattle.pepa_model.specs.Expression.{Expression, Const, Prefixed, Chosen}
 use Rattle.pepa_model.specs.PepaModel.{PepaModel, IsModel, IsNamed, IsSpelled}
-use Rattle.pepa_resolver.specs.Parts.{name_at}
-use Rattle.pepa_printer.specs.ComponentText.{name_of, is_choice}
+use Rattle.pepa_text.specs.ComponentText.{name_of, is_choice}
 use Rattle.pepa_model.specs.Spelling.{IsWrittenRate, HasWrittenRates}
 use Rattle.pepa_printer.proofs.Pieces.{Piece, sign_piece, capital_piece, small_piece, rate_pieces, operand_pieces, expression_pieces}
 use Rattle.pepa_printer.proofs.PrintedFiles.{IsExpressionAt}

@@ -9,19 +9,19 @@ use Rattle.pepa_rates.specs.declared.rate.Rate.{Rate}
 use Rattle.pepa_lexer.specs.declared.kinds.Kind.{Kind}
 use Rattle.pepa_lexer.specs.declared.kinds.Kind.TheVariants as kinds
 use Rattle.pepa_lexer.specs.declared.kinds.Token.{Token}
-use Rattle.pepa_reader.specs.Terminals.{text_of}
+use Rattle.token_grammar.specs.Terminals.{text_of, bytes_of, name_at}
 use Rattle.pepa_reader.specs.Trees.{RateLineNode, ProcessNode, FileNode}
 use Rattle.pepa_model.specs.Derivation.{Among}
 use Rattle.pepa_model.specs.PepaModel.{PepaModel, IsModel, AreDistinct, IsSpelled}
-use Rattle.pepa_resolver.specs.Parts.{bytes_of, name_at, names_in, constants_in, RateSite, rates_in, set_words_in, rate_ats, process_ats, processes_of}
+use Rattle.pepa_resolver.specs.Parts.{names_in, constants_in, RateSite, rates_in, set_words_in, rate_ats, process_ats, processes_of}
 use Rattle.pepa_resolver.specs.Faults.{HasNone, TooManyAt, IsRepeated, TwiceAt, IsKnown, UnknownAt, TauAt}
 use Rattle.pepa_resolver.specs.Outcomes.{Outcome, Good, BadAt, rate_outcome, looked_up, AreOutcomes, BadRateAt}
 use Rattle.pepa_resolver.specs.NamesAnswers.{IsTau, FineSets}
 use Rattle.pepa_resolver.specs.CheckedRates.{AreRates}
-use Rattle.pepa_resolver.proofs.Findings.{no_element, contains_cases}
+use Rattle.node_orders.proofs.Elements.{no_element, contains_cases}
 use Rattle.pepa_resolver.proofs.Repeated.{listed_known}
 use Rattle.pepa_resolver.proofs.Taus.{tau_by_bytes, no_tau, none_is_tau}
-use Rattle.pepa_printer.specs.ComponentText.{name_of}
+use Rattle.pepa_text.specs.ComponentText.{name_of}
 use Rattle.pepa_printer.proofs.PrintedFiles.{IsPrintedFile}
 use Rattle.pepa_printer.proofs.PrintedNames.{printed_constants}
 use Rattle.pepa_printer.proofs.PrintedRates.{rate_good, rate_no_names}

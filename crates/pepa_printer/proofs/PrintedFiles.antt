@@ -12,9 +12,9 @@ use Rattle.pepa_lexer.specs.declared.kinds.Token.{Token}
 use Rattle.pepa_reader.specs.Trees.{RateNode, NumberAt, TopAt, OpAt, ProcessNode, ConstantAt, PrefixAt, ChoiceOf, CoopAt, HideOf, ProcessLineNode, FileNode}
 use Rattle.pepa_model.specs.Expression.{Expression, Const, Prefixed, Chosen, Shape, LeafShape, ConstShape, CoopShape, HideShape, Definition, Sequentially, Compoundly}
 use Rattle.pepa_model.specs.PepaModel.{PepaModel}
-use Rattle.pepa_resolver.specs.Parts.{name_at}
-use Rattle.pepa_printer.specs.ComponentText.{name_of}
-use Rattle.pepa_printer.specs.ModelText.{set_of}
+use Rattle.token_grammar.specs.Terminals.{name_at}
+use Rattle.pepa_text.specs.ComponentText.{name_of}
+use Rattle.pepa_text.specs.SetText.{set_of}
 
 -- the token at an index is of this kind
 abbrev pub IsKindAt : List Token → ℕ → Kind → Type 0

@@ -9,10 +9,11 @@ use Rattle.pepa_reader.specs.Trees.{ProcessNode, ConstantAt, PrefixAt, ChoiceOf,
 use Rattle.pepa_model.specs.Expression.{Expression, Const, Prefixed, Chosen, Shape, LeafShape, ConstShape, CoopShape, HideShape, Definition, Sequentially, Compoundly}
 use Rattle.pepa_model.specs.Leaves.{actions_in, actions_of_shape, actions_defined, action_numbers}
 use Rattle.pepa_model.specs.PepaModel.{PepaModel, IsModel}
-use Rattle.pepa_resolver.specs.Parts.{name_at, process_ats, processes_of}
+use Rattle.token_grammar.specs.Terminals.{name_at}
+use Rattle.pepa_resolver.specs.Parts.{process_ats, processes_of}
 use Rattle.pepa_resolver.specs.Numbers.{words_in, first_places, actions_of, constants_of}
-use Rattle.pepa_printer.specs.ComponentText.{name_of}
-use Rattle.pepa_printer.specs.ModelText.{set_of}
+use Rattle.pepa_text.specs.ComponentText.{name_of}
+use Rattle.pepa_text.specs.SetText.{set_of}
 use Rattle.pepa_printer.proofs.PrintedFiles.{IsExpressionAt, IsShapeAt, IsDefinitionAt, AreLinesAt, IsPrintedFile}
 use Rattle.pepa_printer.proofs.FirstPlaces.{first_places_are}
 

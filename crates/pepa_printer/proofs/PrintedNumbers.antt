@@ -3,12 +3,12 @@ use Rattle.std.proofs.Common.{◌≡◌, ℕ, ◌<◌, List, [], length, refl, a
 use Rattle.pepa_lexer.specs.declared.kinds.Token.{Token}
 use Rattle.pepa_reader.specs.Trees.{FileNode}
 use Rattle.pepa_model.specs.PepaModel.{PepaModel, IsModel, AreDistinct, IsSpelled}
-use Rattle.pepa_resolver.specs.Parts.{name_at}
+use Rattle.token_grammar.specs.Terminals.{name_at}
 use Rattle.pepa_resolver.specs.Outcomes.{looked_up}
 use Rattle.pepa_resolver.specs.Named.{Named, Naming}
-use Rattle.pepa_resolver.specs.Numbers.{constants_of, actions_of, place_in, rate_in, naming_of, named_bodies, named_system}
-use Rattle.pepa_resolver.specs.StructuredFiles.{IsNumbered}
-use Rattle.pepa_printer.specs.ComponentText.{name_of}
+use Rattle.pepa_resolver.specs.Numbers.{constants_of, actions_of, place_in, rate_of_outcome, naming_of, named_bodies, named_system}
+use Rattle.pepa_resolver.specs.ResolvedFiles.{IsNumberedFile}
+use Rattle.pepa_text.specs.ComponentText.{name_of}
 use Rattle.pepa_printer.proofs.KnownBodies.{body_known}
 use Rattle.pepa_printer.proofs.FirstPlaces.{place_found}
 use Rattle.pepa_printer.proofs.PrintedFiles.{IsPrintedFile}
@@ -21,7 +21,7 @@ use Rattle.pepa_printer.proofs.Shown.{AreShown}
 pub record HasNumbers (input : List ℕ) (tokens : List Token) (m : PepaModel) (file : FileNode) : Type 0 where
   pub bodies : List Named
   pub system : Named
-  pub numbered : IsNumbered input tokens file [] bodies system
+  pub numbered : IsNumberedFile input tokens file [] bodies system
   pub shown : AreShown m bodies system
   pub constants_are : constants_of (name_at input tokens) file ≡ m.constants
   pub actions_are : actions_of (name_at input tokens) file ≡ m.actions
@@ -36,7 +36,7 @@ printed_naming : (input : List ℕ) (tokens : List Token) (m : PepaModel) (file 
 printed_naming input tokens m file is printed = record {
   constant_is = λ i c lt e. place_named (constants_of (name_at input tokens) file) m.constants c (name_at input tokens i) (printed_constants input tokens m file is printed) is.numbered.constants lt e;
   action_is = λ i a lt e. place_named (actions_of (name_at input tokens) file) m.actions a (name_at input tokens i) (printed_actions input tokens m file is printed) is.numbered.actions lt e;
-  rate_is = λ r node at written. ap rate_in (rate_good tokens (looked_up (name_at input tokens) file.rates []) r node at written);
+  rate_is = λ r node at written. ap rate_of_outcome (rate_good tokens (looked_up (name_at input tokens) file.rates []) r node at written);
 }
 
 pub printed_numbers : (input : List ℕ) (tokens : List Token) (m : PepaModel) (file : FileNode) → IsModel m → IsSpelled m → IsPrintedFile input tokens m file → HasNumbers input tokens m file

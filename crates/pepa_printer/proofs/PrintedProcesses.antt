@@ -8,14 +8,14 @@ use Rattle.pepa_lexer.specs.declared.kinds.Token.{Token}
 use Rattle.pepa_reader.specs.Trees.{RateNode, ProcessNode, ConstantAt, PrefixAt, ChoiceOf, CoopAt, HideOf, ProcessLineNode}
 use Rattle.pepa_model.specs.Expression.{Expression, Const, Prefixed, Chosen, Shape, LeafShape, ConstShape, CoopShape, HideShape, Definition, Sequentially, Compoundly}
 use Rattle.pepa_model.specs.PepaModel.{PepaModel, IsModel, IsNamed, IsShapeOf}
-use Rattle.pepa_resolver.specs.Parts.{name_at}
-use Rattle.pepa_resolver.specs.Named.{Naming, named, set_of}
+use Rattle.token_grammar.specs.Terminals.{name_at}
+use Rattle.pepa_resolver.specs.Named.{Naming, named, ascending_set}
 use Rattle.pepa_resolver.proofs.Ascending.{is_set_of}
-use Rattle.pepa_printer.specs.ComponentText.{name_of}
-use Rattle.pepa_printer.specs.ModelText.{set_of as model_set}
+use Rattle.pepa_text.specs.ComponentText.{name_of}
+use Rattle.pepa_text.specs.SetText.{set_of as model_set}
 use Rattle.pepa_printer.specs.KnownBodies.{IsBodyOf}
 use Rattle.pepa_model.specs.Spelling.{IsWrittenRate, HasWrittenRates, HasWrittenShape, HasWrittenDefinition}
-use Rattle.pepa_printer.proofs.KnownBodies.{leaf_named, constant_known}
+use Rattle.pepa_text.proofs.ModelNumbers.{leaf_named, constant_known}
 use Rattle.pepa_printer.proofs.PrintedFiles.{IsRateAt, IsExpressionAt, IsShapeAt, IsDefinitionAt, AreLinesAt}
 use Rattle.pepa_printer.proofs.Shown.{Shows, ShowsShape, ShowsDefinition}
 
@@ -49,15 +49,15 @@ module _ (input : List ℕ) (tokens : List Token) (m : PepaModel) (naming : Nami
   set_numbers (i ∷ words) (a ∷ numbers) known h =
       ap (λ (n : ℕ). n ∷ map naming.action words) (fits.action_is i a known.0 h.0) ∙ ap (λ (list : List ℕ). a ∷ list) (set_numbers words numbers known.1 h.1)
 
-  ascending_set : (numbers : List ℕ) → IsStrictlyIncreasing numbers → set_of numbers ≡ numbers
-  ascending_set numbers up = sym (is_set_of numbers numbers up (λ n h. h) (λ n h. h))
+  already_ascending : (numbers : List ℕ) → IsStrictlyIncreasing numbers → ascending_set numbers ≡ numbers
+  already_ascending numbers up = sym (is_set_of numbers numbers up (λ n h. h) (λ n h. h))
 
-  shows_set : IsModel m → (k : ℕ) (words : List ℕ) → k < length m.sets → AllZip IsWordAt words (model_set m k) → slice_get m.sets k ≡ Some (set_of (map naming.action words))
+  shows_set : IsModel m → (k : ℕ) (words : List ℕ) → k < length m.sets → AllZip IsWordAt words (model_set m k) → slice_get m.sets k ≡ Some (ascending_set (map naming.action words))
   shows_set is k words lt h =
       let at : slice_get m.sets k ≡ Some (model_set m k) = slice_get-get_or m.sets k [] lt in
       let set = is.sets k (model_set m k) at in
       let same : map naming.action words ≡ model_set m k = set_numbers words (model_set m k) set.known h in
-      at ∙ ap (λ (s : List ℕ). Some s) (sym (ap set_of same ∙ ascending_set (model_set m k) set.ascends))
+      at ∙ ap (λ (s : List ℕ). Some s) (sym (ap ascending_set same ∙ already_ascending (model_set m k) set.ascends))
 
   -- ---- systems
 

@@ -11,7 +11,7 @@ use Rattle.pepa_lexer.specs.declared.kinds.Sign.TheVariants.{Slash}
 use Rattle.pepa_lexer.specs.declared.kinds.Token.{Token}
 use Rattle.pepa_reader.specs.Trees.{RateNode}
 use Rattle.pepa_resolver.specs.Parts.{names_in}
-use Rattle.pepa_resolver.specs.Outcomes.{Outcome, Good, BadAt, is_fine, fine_at, kind_value, number_value, op_kind_value, op_value, combined, active_outcome, weight_outcome, rate_outcome}
+use Rattle.pepa_resolver.specs.Outcomes.{Outcome, Good, BadAt, is_fine, fine_at, kind_value, number_value, op_kind_value, op_value, combined_outcome, active_outcome, weight_outcome, rate_outcome}
 use Rattle.pepa_model.specs.Spelling.{IsWrittenRate}
 use Rattle.pepa_printer.proofs.PrintedFiles.{IsKindAt, IsFractionAt, IsWeightAt, IsRateAt}
 
@@ -81,9 +81,9 @@ module _ (tokens : List Token) (named : ℕ → Outcome Rate) where
       let left = number_good tokens j q.num over proper.positive proper.in_range.0 in
       let right = number_good tokens k q.den under proper.over_positive proper.in_range.1 in
       let value : op_value (slice_get tokens i) (fraction q.num 1) (fraction q.den 1) ≡ q = quotient_is tokens i q.num q.den slash ∙ proper-reduced q proper in
-      let both : combined tokens i (fine_at j (number_value (slice_get tokens j))) (fine_at k (number_value (slice_get tokens k))) ≡ Good q =
-      ap (λ (o : Outcome Fraction). combined tokens i o (fine_at k (number_value (slice_get tokens k)))) left
-      ∙ ap (combined tokens i (Good (fraction q.num 1))) right
+      let both : combined_outcome tokens i (fine_at j (number_value (slice_get tokens j))) (fine_at k (number_value (slice_get tokens k))) ≡ Good q =
+      ap (λ (o : Outcome Fraction). combined_outcome tokens i o (fine_at k (number_value (slice_get tokens k)))) left
+      ∙ ap (combined_outcome tokens i (Good (fraction q.num 1))) right
       ∙ ap (fine_at i) value
       ∙ fine_good i q proper.positive proper.in_range.0 proper.in_range.1 in
       subst (λ (node : RateNode). rate_outcome tokens named node ≡ Good (Active q)) (sym is) (ap active_outcome both)

@@ -4,13 +4,13 @@ use Rattle.std.specs.List.{AllByRecursion, AllZip}
 use Rattle.std.proofs.lemmas.Option.{slice_get-get_or, same_Some}
 use Rattle.pepa_lexer.specs.declared.kinds.Sign.TheVariants.{Comma, Less, Greater, Slash, OpeningBrace, ClosingBrace}
 use Rattle.pepa_lexer.specs.declared.kinds.Token.{Token}
-use Rattle.pepa_reader.specs.declared.terminal.Terminal.{Terminal}
-use Rattle.pepa_reader.specs.declared.terminal.Terminal.TheVariants.{Mark}
+use Rattle.token_grammar.specs.declared.terminal.Terminal.{Terminal}
+use Rattle.token_grammar.specs.declared.terminal.Terminal.TheVariants.{Mark}
 use Rattle.pepa_reader.specs.Grammar.{Word, Cooperation, Parallel, Sharing, word_spelled, further_words, words_spelled, cooperation_spelled}
 use Rattle.pepa_reader.specs.Trees.{word_indices, cooperation_indices}
 use Rattle.pepa_model.specs.PepaModel.{PepaModel, IsModel, IsSpelled}
-use Rattle.pepa_resolver.specs.Parts.{name_at}
-use Rattle.pepa_printer.specs.ComponentText.{name_of}
+use Rattle.token_grammar.specs.Terminals.{name_at}
+use Rattle.pepa_text.specs.ComponentText.{name_of}
 use Rattle.pepa_printer.proofs.Pieces.{sign_piece, small_piece, further_pieces, set_pieces, coop_pieces, hiding_pieces}
 use Rattle.pepa_printer.proofs.PieceTerminals.{terminals_of, terminals_append, IsWordFor, word_for, StandAt, rest_stands, part_stands, name_there}
 

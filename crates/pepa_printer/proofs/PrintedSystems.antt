@@ -1,20 +1,19 @@
 -- The pieces of a system are a process of the grammar, and with their brackets a choice or a hiding's system, with its tree.
 use Rattle.std.proofs.Common.{◌≡◌, ℕ, ◌+◌, ◌<◌, true, List, [], ◌∷◌, ◌++◌, length, sym, ap, subst, arith, append_assoc, length-append}
-use Rattle.std.specs.List.{AllByRecursion}
-use Rattle.std.proofs.lemmas.Option.{slice_get-get_or}
 use Rattle.pepa_lexer.specs.declared.kinds.Sign.TheVariants.{Slash, OpeningBrace, ClosingBrace}
 use Rattle.pepa_lexer.specs.declared.kinds.Token.{Token}
-use Rattle.pepa_reader.specs.declared.terminal.Terminal.{Terminal}
-use Rattle.pepa_reader.specs.declared.terminal.Terminal.TheVariants.{Mark}
+use Rattle.token_grammar.specs.declared.terminal.Terminal.{Terminal}
+use Rattle.token_grammar.specs.declared.terminal.Terminal.TheVariants.{Mark}
 use Rattle.pepa_reader.specs.Grammar as g
 use Rattle.pepa_reader.specs.Grammar.{words_spelled, cooperation_spelled, process_spelled, choice_spelled, hidden_spelled}
 use Rattle.pepa_model.specs.Expression.{Expression, Const, Prefixed, Chosen, Shape, LeafShape, ConstShape, CoopShape, HideShape, Definition, Sequentially, Compoundly}
 use Rattle.pepa_model.specs.PepaModel.{PepaModel, IsModel, IsShapeOf, IsSpelled}
-use Rattle.pepa_printer.specs.ComponentText.{name_of}
-use Rattle.pepa_printer.specs.ModelText.{set_of, is_cooperation, is_composed, is_open}
+use Rattle.pepa_text.specs.ComponentText.{name_of, is_composed}
+use Rattle.pepa_text.specs.SetText.{set_of}
+use Rattle.pepa_text.specs.SystemText.{written_shape, is_cooperation, is_bracketed}
 use Rattle.pepa_printer.specs.KnownBodies.{IsBodyOf}
 use Rattle.pepa_model.specs.Spelling.{HasWrittenShape, HasWrittenDefinition}
-use Rattle.pepa_printer.proofs.KnownBodies.{leaf_named, constant_known}
+use Rattle.pepa_text.proofs.ModelNumbers.{leaf_named, constant_known, set_actions}
 use Rattle.pepa_printer.proofs.Pieces.{Piece, sign_piece, capital_piece, operand_pieces, expression_pieces, set_pieces, coop_pieces, hiding_pieces, shape_pieces, definition_pieces}
 use Rattle.pepa_printer.proofs.PrintedFiles.{IsExpressionAt, IsShapeAt, IsDefinitionAt}
 use Rattle.pepa_printer.proofs.PieceTerminals.{terminals_append, same_length, StandAt, part_stands, rest_stands, front_stands}
@@ -26,15 +25,12 @@ use Rattle.pepa_printer.proofs.PrintedComponents.{HasForms, forms, constant_spel
 -- a constant nor a hiding one that can hide a set
 pub record HasShapes (input : List ℕ) (tokens : List Token) (m : PepaModel) (x : Shape) : Type 0 where
   pub plain : (at : ℕ) → StandAt input tokens at (shape_pieces m x) → AsProcess (λ node. IsShapeAt input tokens m x node) at (shape_pieces m x)
-  pub operand : (at : ℕ) → StandAt input tokens at (operand_pieces (is_cooperation x) (shape_pieces m x))
-      → AsChoice (λ node. IsShapeAt input tokens m x node) at (operand_pieces (is_cooperation x) (shape_pieces m x))
-  pub hidden : (at : ℕ) → StandAt input tokens at (operand_pieces (is_open x) (shape_pieces m x))
-      → AsHidden (λ node. IsShapeAt input tokens m x node) at (operand_pieces (is_open x) (shape_pieces m x))
+  pub operand : (at : ℕ) → StandAt input tokens at (operand_pieces (is_cooperation (written_shape m x)) (shape_pieces m x))
+      → AsChoice (λ node. IsShapeAt input tokens m x node) at (operand_pieces (is_cooperation (written_shape m x)) (shape_pieces m x))
+  pub hidden : (at : ℕ) → StandAt input tokens at (operand_pieces (is_bracketed (written_shape m x)) (shape_pieces m x))
+      → AsHidden (λ node. IsShapeAt input tokens m x node) at (operand_pieces (is_bracketed (written_shape m x)) (shape_pieces m x))
 
 module _ (input : List ℕ) (tokens : List Token) (m : PepaModel) (is : IsModel m) (spelled : IsSpelled m) where
-  actions_known : (k : ℕ) → k < length m.sets → AllByRecursion (λ a. a < length m.actions) (set_of m k)
-  actions_known k known = (is.sets k (set_of m k) (slice_get-get_or m.sets k [] known)).known
-
   -- a component stands in brackets before `/` if it is no constant
   leaf_hidden : (e : Expression) → HasForms input tokens m e → (at : ℕ) → StandAt input tokens at (operand_pieces (is_composed e) (expression_pieces m e))
       → AsHidden (λ node. IsExpressionAt input tokens m e node) at (operand_pieces (is_composed e) (expression_pieces m e))
@@ -59,13 +55,13 @@ module _ (input : List ℕ) (tokens : List Token) (m : PepaModel) (is : IsModel 
       let set = set_of m k in
       let xs = shape_pieces m x in
       let signs = coop_pieces m set in
-      let behind = operand_pieces (is_cooperation y) (shape_pieces m y) in
+      let behind = operand_pieces (is_cooperation (written_shape m y)) (shape_pieces m y) in
       let left : AsProcess (λ node. IsShapeAt input tokens m x node) at xs = first.plain at (front_stands input tokens xs (signs ++ behind) at h) in
       let left_size : length (process_spelled left.part) ≡ length xs = same_length xs (process_spelled left.part) left.spelled in
       let i = at + length (process_spelled left.part) in
       let there : i ≡ at + length xs = omega arith in
       let sign : AsSign input tokens m set i =
-      sign_written input tokens m is spelled set i (actions_known k known) (part_stands input tokens xs signs behind at i h there) in
+      sign_written input tokens m is spelled set i (set_actions m is k known) (part_stands input tokens xs signs behind at i h there) in
       let sign_size : length (cooperation_spelled sign.part) ≡ length signs = same_length signs (cooperation_spelled sign.part) sign.spelled in
       let n = i + length (cooperation_spelled sign.part) in
       let front = xs ++ signs in
@@ -85,7 +81,7 @@ module _ (input : List ℕ) (tokens : List Token) (m : PepaModel) (is : IsModel 
       → StandAt input tokens at (shape_pieces m (HideShape x k)) → AsHidden (λ node. IsShapeAt input tokens m (HideShape x k) node) at (shape_pieces m (HideShape x k))
   hiding_written x k known inner at h =
       let set = set_of m k in
-      let xs = operand_pieces (is_open x) (shape_pieces m x) in
+      let xs = operand_pieces (is_bracketed (written_shape m x)) (shape_pieces m x) in
       let signs = hiding_pieces m set in
       let opened = sign_piece Slash ∷ sign_piece OpeningBrace ∷ [] in
       let left : AsHidden (λ node. IsShapeAt input tokens m x node) at xs = inner.hidden at (front_stands input tokens xs signs at h) in
@@ -97,7 +93,7 @@ module _ (input : List ℕ) (tokens : List Token) (m : PepaModel) (is : IsModel 
       let h2 : StandAt input tokens at (front ++ (set_pieces m set ++ sign_piece ClosingBrace ∷ [])) =
       subst (λ (l : List Piece). StandAt input tokens at l) (sym (append_assoc xs opened (set_pieces m set ++ sign_piece ClosingBrace ∷ []))) h in
       let words : AsWords input tokens m set n =
-      set_written input tokens m is spelled set n (actions_known k known) (part_stands input tokens front (set_pieces m set) (sign_piece ClosingBrace ∷ []) at n h2 there) in
+      set_written input tokens m is spelled set n (set_actions m is k known) (part_stands input tokens front (set_pieces m set) (sign_piece ClosingBrace ∷ []) at n h2 there) in
       record {
         part = g.Hiding left.part words.words;
         spelled =

@@ -3,9 +3,9 @@ use Rattle.std.proofs.Common.{◌≡◌, ℕ, suc, ◌+◌, List, [], ◌∷◌,
 use Rattle.pepa_lexer.specs.declared.kinds.Kind.TheVariants as kinds
 use Rattle.pepa_lexer.specs.declared.kinds.Sign.TheVariants.{Equals, Semicolon}
 use Rattle.pepa_lexer.specs.declared.kinds.Token.{Token}
-use Rattle.pepa_reader.specs.declared.terminal.Terminal.{Terminal}
-use Rattle.pepa_reader.specs.declared.terminal.Terminal.TheVariants.{Capital, Mark, End}
-use Rattle.pepa_reader.specs.Terminals.{terminals}
+use Rattle.token_grammar.specs.declared.terminal.Terminal.{Terminal}
+use Rattle.token_grammar.specs.declared.terminal.Terminal.TheVariants.{Capital, Mark, End}
+use Rattle.token_grammar.specs.Terminals.{terminals}
 use Rattle.pepa_reader.specs.Grammar.{File, Line, ProcessNamed, Open, process_spelled, line_spelled, lines_spelled, file_spelled}
 use Rattle.pepa_reader.specs.Trees.{rate_lines_from, process_lines_from, file_tree}
 use Rattle.pepa_model.specs.Expression.{Definition}

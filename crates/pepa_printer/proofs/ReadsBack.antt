@@ -4,10 +4,10 @@ use Rattle.std.specs.List.{AllZip}
 use Rattle.pepa_lexer.specs.declared.kinds.Token.{Token}
 use Rattle.pepa_reader.specs.Trees.{FileNode, file_tree}
 use Rattle.pepa_model.specs.PepaModel.{PepaModel, IsModel}
-use Rattle.pepa_resolver.specs.Parts.{name_at}
+use Rattle.token_grammar.specs.Terminals.{name_at}
 use Rattle.pepa_resolver.specs.Numbers.{actions_of}
 use Rattle.pepa_checks.specs.Outline.{Outline}
-use Rattle.pepa_checks.specs.Activities.{HasActivities, HasNoMixed}
+use Rattle.pepa_checks.specs.Activities.{AreActivitiesOf, HasNoMixed}
 use Rattle.pepa_checks.specs.Limits.{PassesLimit}
 use Rattle.pepa_checks.specs.CheckedFiles.{Sound, outline, IsModelOf, IsTextOf}
 use Rattle.pepa_checks.proofs.OneModel.{one_text}
@@ -47,7 +47,7 @@ printed_model input tokens m file is printed =
       sets_are = ap (λ (l : Outline). l.sets) same;
       leaves_are = ap (λ (l : Outline). l.leaves) same;
       system_is = ap (λ (l : Outline). l.system) same;
-      activities_are = subst (λ (l : Outline). AllZip (HasActivities l) m.leaves m.activities) same (has_activities m is);
+      activities_are = subst (λ (l : Outline). AllZip (AreActivitiesOf l) m.leaves m.activities) same (has_activities m is);
     }
 
 pub reads_back : (m : PepaModel) → IsModel m → IsTextOf (model_text m) m

@@ -7,8 +7,8 @@ use Rattle.pepa_model.specs.Expression.{Expression, Const, Shape, ConstShape, Co
 use Rattle.pepa_model.specs.Expanded.{Expanded, LeafTree, ConstTree, CoopTree, HideTree, Expands}
 use Rattle.pepa_model.specs.PepaModel.{PepaModel, IsModel}
 use Rattle.pepa_resolver.specs.Named.{Named, NamedConstant, NamedCoop, NamedHide}
-use Rattle.pepa_resolver.specs.Structure.{has_system, IsCompound, IsCompoundBy}
-use Rattle.pepa_resolver.specs.Graphs.{IsTableOf}
+use Rattle.pepa_checks.specs.Structure.{has_system, IsCompoundConstant, IsCompoundBy}
+use Rattle.node_orders.specs.Graphs.{IsTableOf}
 use Rattle.pepa_checks.specs.Outline.{is_compound}
 use Rattle.pepa_printer.proofs.Shown.{ShowsShape, ShowsDefinition, AreShown}
 use Rattle.pepa_printer.proofs.Zips.{zip_at, zip_back, zip_length}
@@ -61,7 +61,7 @@ module _ (m : PepaModel) (sound : IsModel m) (bodies : List Named) (system : Nam
   definition_at c node at = zip_back (ShowsDefinition m) m.bodies bodies c node shown.bodies_are at
 
   -- what stands for a system is compound, by recursion on the tree
-  compound_by : (tree : Expanded) (shape : Shape) (c : ℕ) → slice_get m.bodies c ≡ Some (Compoundly shape) → Expands m.bodies shape tree → IsCompound bodies c
+  compound_by : (tree : Expanded) (shape : Shape) (c : ℕ) → slice_get m.bodies c ≡ Some (Compoundly shape) → Expands m.bodies shape tree → IsCompoundConstant bodies c
   compound_by (LeafTree e) shape c at is = absurd ((sound.compounds c shape at).no_leaf e is)
   compound_by (ConstTree d p) shape c at (is, (body, body_at, inner)) =
       let (node, there, shows) = node_at c (Compoundly shape) at in
@@ -75,7 +75,7 @@ module _ (m : PepaModel) (sound : IsModel m) (bodies : List Named) (system : Nam
       let (node, there, shows) = node_at c (Compoundly shape) at in
       (zero, (node, there, shown_hide m x k node (subst (λ (s : Shape). ShowsShape m s node) is shows)))
 
-  pub shape_compound : (c : ℕ) (shape : Shape) → slice_get m.bodies c ≡ Some (Compoundly shape) → IsCompound bodies c
+  pub shape_compound : (c : ℕ) (shape : Shape) → slice_get m.bodies c ≡ Some (Compoundly shape) → IsCompoundConstant bodies c
   shape_compound c shape at =
       let expanded = (sound.compounds c shape at).expanded in
       compound_by expanded.tree shape c at expanded.expands
@@ -106,7 +106,7 @@ module _ (m : PepaModel) (sound : IsModel m) (bodies : List Named) (system : Nam
   pub flags_each : length (flags_of m.bodies) ≡ length bodies
   flags_each = length-map m.bodies stands_for_system ∙ sym (zip_length (ShowsDefinition m) m.bodies bodies shown.bodies_are)
 
-  pub flags_table : IsTableOf (IsCompound bodies) (flags_of m.bodies)
+  pub flags_table : IsTableOf (IsCompoundConstant bodies) (flags_of m.bodies)
   flags_table = record {
     sound = λ d marked. let (shape, at) = flag_back m.bodies d marked in shape_compound d shape at;
     complete = λ d (n, by). let (shape, at) = compound_shape n d by in flag_at m.bodies d (Compoundly shape) at;

@@ -3,7 +3,7 @@ use Rattle.std.proofs.Common.{◌≡◌, ℕ, Bool, true, false, ◌||◌, List,
 use Rattle.pepa_rates.specs.declared.rate.Rate.{Rate}
 use Rattle.pepa_model.specs.Expression.{Expression, Const, Prefixed, Chosen}
 use Rattle.pepa_resolver.specs.Named.{Named, NamedConstant, NamedPrefix, NamedChoice}
-use Rattle.pepa_resolver.specs.Structure.{has_system}
+use Rattle.pepa_checks.specs.Structure.{has_system}
 use Rattle.pepa_checks.specs.Outline.{expression_in, sets_written}
 use Rattle.pepa_printer.proofs.Shown.{Shows}
 

@@ -2,9 +2,9 @@
 use Rattle.std.proofs.Common.{◌≡◌, Bool, List, length}
 use Rattle.pepa_model.specs.PepaModel.{PepaModel, IsModel}
 use Rattle.pepa_resolver.specs.Named.{Named}
-use Rattle.pepa_resolver.specs.Structure.{IsCompound}
-use Rattle.pepa_resolver.specs.Graphs.{IsTableOf}
-use Rattle.pepa_resolver.specs.StructureAnswers.{IsStructured}
+use Rattle.pepa_checks.specs.Structure.{IsCompoundConstant}
+use Rattle.node_orders.specs.Graphs.{IsTableOf}
+use Rattle.pepa_checks.specs.StructureAnswers.{IsStructured}
 use Rattle.pepa_checks.specs.Outline.{outline_of}
 use Rattle.pepa_printer.proofs.Shown.{AreShown, model_outline}
 use Rattle.pepa_printer.proofs.ShownCompounds.{flags_of, flags_each, flags_table}
@@ -15,7 +15,7 @@ pub record HasOutline (m : PepaModel) (bodies : List Named) (system : Named) : T
   pub structured : IsStructured bodies system
   pub compounds : List Bool
   pub one_each : length compounds ≡ length bodies
-  pub table : IsTableOf (IsCompound bodies) compounds
+  pub table : IsTableOf (IsCompoundConstant bodies) compounds
   pub outline_is : outline_of compounds bodies system ≡ model_outline m
 
 pub shown_outline : (m : PepaModel) (bodies : List Named) (system : Named) → IsModel m → AreShown m bodies system → HasOutline m bodies system

@@ -9,7 +9,7 @@ use Rattle.pepa_model.specs.Expanded.{Expanded, LeafTree, ConstTree, CoopTree, H
 use Rattle.pepa_model.specs.Leaves.{followers, components}
 use Rattle.pepa_model.specs.PepaModel.{PepaModel}
 use Rattle.pepa_resolver.specs.Named.{Named, NamedConstant, NamedPrefix, NamedChoice, NamedCoop, NamedHide, constants_named, unguarded, sequential_parts}
-use Rattle.pepa_resolver.proofs.Findings.{no_element, one_element, contains_here, contains_there, contains_cases}
+use Rattle.node_orders.proofs.Elements.{no_element, one_element, contains_here, contains_there, contains_cases}
 use Rattle.pepa_printer.proofs.Shown.{Shows, ShowsShape}
 use Rattle.pepa_printer.proofs.OpenedLeaves.{HasOpening, OpensConstant, opens_constant, opens_choice}
 

@@ -8,10 +8,11 @@ use Rattle.pepa_model.specs.Opened.{Opened, Opens, height}
 use Rattle.pepa_model.specs.Expanded.{Expanded, Expands, height_of}
 use Rattle.pepa_model.specs.PepaModel.{PepaModel, IsModel}
 use Rattle.pepa_resolver.specs.Named.{Named, constants_named, sequential_parts}
-use Rattle.pepa_resolver.specs.Structure.{IsSystem, NotSequentialAt, Leads, CompoundEdge, UnguardedEdge, HasNoCycle}
-use Rattle.pepa_resolver.specs.StructureAnswers.{IsStructured}
+use Rattle.pepa_checks.specs.Structure.{IsSystem, NotSequentialAt, CompoundEdge, UnguardedEdge}
+use Rattle.node_orders.specs.Cycles.{ReachesIn, HasNoCycle}
+use Rattle.pepa_checks.specs.StructureAnswers.{IsStructured}
 use Rattle.pepa_resolver.specs.Faults.{HasNone}
-use Rattle.pepa_resolver.proofs.Bodies.{same_body}
+use Rattle.pepa_checks.proofs.Bodies.{same_body}
 use Rattle.pepa_checks.proofs.OneTree.{one_opening, one_expansion}
 use Rattle.pepa_printer.proofs.Shown.{Shows, ShowsDefinition, AreShown}
 use Rattle.pepa_printer.proofs.ShownExpressions.{shown_plain, shown_constant}
@@ -22,7 +23,7 @@ use Rattle.pepa_printer.proofs.ShownParts.{IsOpenPart, expression_parts, shape_p
 -- ---- ranks that fall leave no way back
 
 module _ (Edge : ℕ → ℕ → Type 0) (rank : ℕ → ℕ) (falls : (c d : ℕ) → Edge c d → rank d < rank c) where
-  leads_down : (n c d : ℕ) → Leads Edge n c d → rank d ≤ rank c
+  leads_down : (n c d : ℕ) → ReachesIn Edge n c d → rank d ≤ rank c
   leads_down zero c d same = omega (arith, ap rank same)
   leads_down (suc n) c d way = omega (arith, falls c way.0 way.1, leads_down n way.0 d way.2)
 

@@ -1,3 +1,2 @@
-pub mod ComponentText
 pub mod ModelText
 pub mod KnownBodies

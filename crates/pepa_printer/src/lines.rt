@@ -3,15 +3,12 @@ ghost use Rattle.std.specs.Prelude.{◌≡◌, ◌++◌, ◌<◌, OnOk, OnErr, I
 ghost use Rattle.std.specs.Io.{StartsWith};
 ghost use Rattle.pepa_model.specs.Expression.{definition_of};
 ghost use Rattle.pepa_checks.specs.CheckedFiles.{IsTextOf};
-ghost use Rattle.pepa_printer.specs.ComponentText.{name_of};
 ghost use Rattle.pepa_printer.specs.KnownBodies.{IsBodyOf};
-ghost use Rattle.pepa_printer.specs.ModelText.{definition_text, line_text, lines_text, model_text};
+ghost use Rattle.pepa_printer.specs.ModelText.{definition_text_of, line_text_of, model_lines_text, model_text};
 
-use crate::components::{push_constant, push_expression};
 use crate::parts;
-use crate::systems::push_shape;
-use crate::text::push_text;
 use pepa_model::{Body, Model};
+use pepa_text::{push_constant, push_expression, push_shape, push_text};
 use sim_outside::Bytes;
 use std::alloc::{AllocError, Global};
 
@@ -23,7 +20,7 @@ pub fn print_model(alloc: Global, model: &Model) -> Result<Bytes, AllocError>
     ensures text { IfOk result (λ text. text ≡ model_text model.now) }
     ensures reads_back { IfOk result (λ text. IsTextOf text model.now) }
 {
-    model.is_sound();
+    model.recall_invariant();
     lines_and_system(alloc, model)
 }
 
@@ -32,18 +29,18 @@ fn lines_and_system(alloc: Global, model: &Model) -> Result<Bytes, AllocError>
     ensures { IfOk result (λ text. text ≡ model_text model.now) }
 {
     let mut text = Vec::new(alloc);
-    model.is_sound();
+    model.recall_invariant();
     push_lines(alloc, &mut text, model)?;
-    push_shape(alloc, &mut text, model, parts::system(model))?;
+    push_shape(alloc, &mut text, model, model.system())?;
     push_text(&mut text, b"\n")?;
     Ok(Bytes::from_vec(text))
 }
 
 /// Appends the lines of the constants.
 fn push_lines(alloc: Global, to: &mut Vec<u8>, model: &Model) -> Result<(), AllocError>
-    ensures { OnOk result (to.new.items ≡ to.old.items ++ lines_text model.now model.now.constants model.now.bodies) }
+    ensures { OnOk result (to.new.items ≡ to.old.items ++ model_lines_text model.now) }
 {
-    model.is_sound();
+    model.recall_invariant();
     for constant in 0..parts::constant_count(model) as u32 {
         push_line(alloc, to, model, constant, parts::body(model, constant))?;
     }
@@ -60,7 +57,7 @@ fn push_line(
 ) -> Result<(), AllocError>
     requires constant { constant < length model.now.constants }
     requires body { IsBodyOf model.now (definition_of body.now) }
-    ensures text { OnOk result (to.new.items ≡ to.old.items ++ line_text model.now (name_of model.now.constants constant) (definition_of body.now)) }
+    ensures text { OnOk result (to.new.items ≡ to.old.items ++ line_text_of model.now constant body.now) }
     ensures kept { OnErr result (StartsWith to.new.items to.old.items) }
 {
     push_constant(to, model, constant)?;
@@ -78,7 +75,7 @@ fn push_definition(
     body: &Body,
 ) -> Result<(), AllocError>
     requires { IsBodyOf model.now (definition_of body.now) }
-    ensures text { OnOk result (to.new.items ≡ to.old.items ++ definition_text model.now (definition_of body.now)) }
+    ensures text { OnOk result (to.new.items ≡ to.old.items ++ definition_text_of model.now body.now) }
     ensures kept { OnErr result (StartsWith to.new.items to.old.items) }
 {
     match body {

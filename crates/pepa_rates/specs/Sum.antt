@@ -12,12 +12,12 @@ abbrev pub sum_of : Fraction → Fraction → Fraction
 sum_of p q = reduced (p.num * q.den + q.num * p.den) (p.den * q.den)
 
 -- two rates of one kind have a sum; two kinds have none
-pub data Sum : Type 0 where
-  Adds : Rate → Sum
-  NoSum : Sum
+pub data RateSum : Type 0 where
+  Adds : Rate → RateSum
+  NoSum : RateSum
 
 -- the sum of two rates, however large
-abbrev pub rate_sum : Rate → Rate → Sum
+abbrev pub rate_sum : Rate → Rate → RateSum
 rate_sum (Active p) (Active q) = Adds (Active (sum_of p q))
 rate_sum (Passive p) (Passive q) = Adds (Passive (sum_of p q))
 rate_sum (Active p) (Passive q) = NoSum
@@ -29,7 +29,7 @@ fraction_of (Active q) = q
 fraction_of (Passive q) = q
 
 -- the result for a sum: the sum itself if it is in range, and why it is refused if not
-abbrev pub Gives : Sum → Result Rate RateFault → Type 0
+abbrev pub Gives : RateSum → Result Rate RateFault → Type 0
 Gives (Adds rate) (Ok r) = (r ≡ rate) × InRange (fraction_of rate)
 Gives (Adds rate) (Err Overflow) = ¬ InRange (fraction_of rate)
 Gives (Adds rate) (Err Mixed) = ⊥

@@ -2,6 +2,7 @@
 use Rattle.std.specs.Prelude.{◌≡◌, ℕ, ◌*◌, ◌/◌, ◌^◌, ◌<◌, List, map, fold, sum, All, Result, Ok, Err}
 use Rattle.std.specs.Int.{◌∣◌}
 use Rattle.pepa_rates.specs.Fraction.{Fraction, gcd}
+use Rattle.pepa_rates.specs.declared.weight_list.Scale.{Scale}
 use Rattle.pepa_rates.specs.declared.weight_list.Weights.{Weights}
 use Rattle.pepa_rates.specs.declared.weight_list.WeightFault.{WeightFault}
 use Rattle.pepa_rates.specs.declared.weight_list.WeightFault.TheVariants.{Overflow, Memory}
@@ -38,3 +39,9 @@ abbrev pub IsWeightsOf : List Fraction → Result Weights WeightFault → Type 0
 IsWeightsOf rates (Ok w) = (w ≡ record { each = weights_of rates; whole = sum (weights_of rates); den = common_den rates }) × HaveWeights rates
 IsWeightsOf rates (Err Overflow) = ¬ HaveWeights rates
 IsWeightsOf rates (Err Memory) = HaveWeights rates
+
+-- their sum and the denominator, where both are below 2^62, else refused; where memory ran out both are below it too
+abbrev pub IsScaleOf : List Fraction → Result Scale WeightFault → Type 0
+IsScaleOf rates (Ok scale) = (scale ≡ record { whole = sum (weights_of rates); den = common_den rates }) × HaveWeights rates
+IsScaleOf rates (Err Overflow) = ¬ HaveWeights rates
+IsScaleOf rates (Err Memory) = HaveWeights rates

@@ -1,3 +1,4 @@
+//! Positive fractions in lowest terms.
 ghost use Rattle.std.specs.Prelude.{◌≡◌, ◌<◌, MatchResult};
 ghost use Rattle.pepa_rates.specs.Fraction.{gcd, reduced, InRange};
 
@@ -6,7 +7,7 @@ use std::marker::Model;
 /// A positive fraction in lowest terms, with numerator and denominator from 1 to 2^42 - 1.
 ///
 /// Contracts see it as its two numbers.
-#[derive(Clone, Copy, Debug, PartialEq, Eq)]
+#[derive(Clone, Copy, Debug, PartialEq, Eq, Hash)]
 pub struct Frac {
     pub num: u64,
     pub den: u64,

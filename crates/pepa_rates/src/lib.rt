@@ -10,5 +10,5 @@ mod weight_list;
 
 pub use frac::{Frac, RateOverflow};
 pub use rate::{Rate, RateFault};
-pub use weighing::weights;
-pub use weight_list::{WeightFault, Weights, Words64};
+pub use weighing::{push_weights, weights};
+pub use weight_list::{Scale, WeightFault, Weights, Words64};

@@ -1,3 +1,4 @@
+//! Rates of activities and their sums.
 ghost use Rattle.std.specs.Prelude.{◌≡◌, MatchResult};
 ghost use Rattle.pepa_rates.specs.Fraction.{InRange, IsProper};
 ghost use Rattle.pepa_rates.specs.Sum.{sum_of, fraction_of, IsSumOf};
@@ -5,7 +6,7 @@ ghost use Rattle.pepa_rates.specs.Sum.{sum_of, fraction_of, IsSumOf};
 use crate::frac::Frac;
 
 /// The rate of an activity: active, in activities per time unit, or passive, with a weight.
-#[derive(Clone, Copy, Debug, PartialEq, Eq)]
+#[derive(Clone, Copy, Debug, PartialEq, Eq, Hash)]
 pub enum Rate {
     Active(Frac),
     Passive(Frac),

@@ -1,3 +1,4 @@
+//! The lesser of two rates, and shares of a rate.
 ghost use Rattle.std.specs.Prelude.{◌≡◌, ◌<◌, ◌*◌, ◌↔◌, IsTrue, MatchResult};
 ghost use Rattle.pepa_rates.specs.Fraction.{reduced, InRange};
 ghost use Rattle.pepa_rates.specs.Sum.{fraction_of};

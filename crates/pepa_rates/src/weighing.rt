@@ -1,10 +1,10 @@
 //! Fractions as whole numbers over their least common denominator.
-ghost use Rattle.std.specs.Prelude.{◌≡◌, ◌<◌, ◌≤◌, ◌^◌, map, sum_by, All, IfOk, MatchOption};
+ghost use Rattle.std.specs.Prelude.{◌≡◌, ◌<◌, ◌≤◌, ◌^◌, ◌++◌, map, sum_by, All, MatchOption, OnErr, OnOk};
 ghost use Rattle.pepa_rates.specs.Fraction.{IsProper};
-ghost use Rattle.pepa_rates.specs.Weights.{common_den, weight_of, IsWeightsOf};
+ghost use Rattle.pepa_rates.specs.Weights.{common_den, weight_of, weights_of, IsScaleOf, IsWeightsOf};
 
 use crate::frac::{Frac, common_divisor};
-use crate::weight_list::{WeightFault, Weights, Words64};
+use crate::weight_list::{Scale, WeightFault, Weights};
 use sqlite_items::Items;
 use std::alloc::{AllocError, Global};
 
@@ -17,16 +17,33 @@ const WHOLE_LIMIT: u128 = 1 << 62;
 pub fn weights(alloc: Global, rates: &[Frac]) -> Result<Weights, WeightFault>
     ensures { IsWeightsOf rates.now result }
 {
+    let mut each = Vec::new(alloc);
+    let scale = push_weights(rates, &mut each)?;
+    Ok(Weights {
+        each: Items::from_vec(each),
+        whole: scale.whole,
+        den: scale.den,
+    })
+}
+
+/// Appends each fraction as a whole number over the least common multiple of all denominators, and answers this and their sum.
+///
+/// It is `weights` for a buffer that is kept. After an `Err` the buffer is as before.
+pub fn push_weights(rates: &[Frac], to: &mut Vec<u64>) -> Result<Scale, WeightFault>
+    ensures scale { IsScaleOf rates.now result }
+    ensures each { OnOk result (to.new.items ≡ to.old.items ++ weights_of rates.now) }
+    ensures kept { OnErr result (to.new.items ≡ to.old.items) }
+{
     let Some(den) = least_common_den(rates) else {
         return Err(WeightFault::Overflow);
     };
     let Some(whole) = whole_weight(rates, den) else {
         return Err(WeightFault::Overflow);
     };
-    let Ok(each) = list_weights(alloc, rates, den) else {
+    let Ok(()) = push_each(rates, den, to) else {
         return Err(WeightFault::Memory);
     };
-    Ok(Weights { each, whole, den })
+    Ok(Scale { whole, den })
 }
 
 // A least common multiple only grows with more denominators, so one that is too large is refused at once. No product
@@ -61,16 +78,20 @@ fn whole_weight(rates: &[Frac], den: u64) -> Option<u64>
     Some(whole as u64)
 }
 
-fn list_weights(alloc: Global, rates: &[Frac], den: u64) -> Result<Words64, AllocError>
+fn push_each(rates: &[Frac], den: u64, to: &mut Vec<u64>) -> Result<(), AllocError>
     requires limit { den < 2 ^ 62 }
     requires whole { sum_by (weight_of den) rates.now < 2 ^ 62 }
-    ensures { IfOk result (λ each. each ≡ map (weight_of den) rates.now) }
+    ensures each { OnOk result (to.new.items ≡ to.old.items ++ map (weight_of den) rates.now) }
+    ensures kept { OnErr result (to.new.items ≡ to.old.items) }
 {
-    let mut each = Items::new(alloc);
+    let before = to.len();
     for q in rates {
-        each.push(weight(q, den) as u64)?;
+        let Ok(()) = to.push(weight(q, den) as u64) else {
+            to.truncate(before);
+            return Err(AllocError);
+        };
     }
-    Ok(each)
+    Ok(())
 }
 
 fn weight(q: &Frac, den: u64) -> u128

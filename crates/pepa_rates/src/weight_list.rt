@@ -17,6 +17,15 @@ pub struct Weights {
     pub den: u64,
 }
 
+/// What the weights of some fractions are together.
+#[derive(Clone, Copy, Debug, PartialEq, Eq)]
+pub struct Scale {
+    /// The sum of the weights.
+    pub whole: u64,
+    /// The least common multiple of the fractions' denominators.
+    pub den: u64,
+}
+
 /// Why there are no weights.
 #[derive(Clone, Copy, Debug, PartialEq, Eq, Error)]
 pub enum WeightFault {

@@ -5,17 +5,20 @@ use Rattle.std.proofs.lemmas.Option.{same_Some}
 use Rattle.std.proofs.Math.Seq.{drop-cons, take-append_seam}
 use Rattle.pepa_lexer.specs.declared.kinds.Token.{Token}
 use Rattle.pepa_lexer.specs.declared.kinds.Sign.TheVariants.{Equals}
-use Rattle.pepa_reader.specs.declared.terminal.Terminal.{Terminal}
-use Rattle.pepa_reader.specs.declared.terminal.Terminal.TheVariants.{Probe, Mark, End}
+use Rattle.token_grammar.specs.declared.terminal.Terminal.{Terminal}
+use Rattle.token_grammar.specs.declared.terminal.Terminal.TheVariants.{Probe, Mark, End}
+use Rattle.token_grammar.specs.Machines.{runs}
 use Rattle.pepa_reader.specs.declared.fault.FileFault.{FileFault}
 use Rattle.pepa_reader.specs.declared.fault.FileFault.TheVariants as faults
-use Rattle.pepa_reader.specs.Terminals.{terminals, terminal_of}
+use Rattle.token_grammar.specs.Terminals.{terminals, terminal_of}
 use Rattle.pepa_reader.specs.Grammar.{Probing, Line, lines_spelled}
-use Rattle.pepa_reader.specs.FileAnswers.{most_tokens, CanGoOn, CantFollow, StandsAt, AreShort, IsInItem, BeginsProbeLine, IsRefused, ReadsFile}
-use Rattle.pepa_reader.specs.Machine.{State, WantEquals, IsUndone, step, run, start}
-use Rattle.pepa_reader.specs.Reading.{Begins, Refuses}
+use Rattle.pepa_reader.specs.FileAnswers.{most_tokens, AreShort, IsInItem, BeginsProbeLine, IsFile, IsRefusedAtToken, ReadsFile}
+use Rattle.token_grammar.specs.Languages.{CanGoOn, CantFollow, StandsAt}
+use Rattle.pepa_reader.specs.Machine.{ParserState, WantEquals, IsUndone, step, run, start}
+use Rattle.token_grammar.specs.Cursors.{Begins}
+use Rattle.pepa_reader.specs.Reading.{CannotGoOn}
 use Rattle.pepa_reader.specs.ItemReading.{IsProbeLine, IsItemFault, ReadsItemAt}
-use Rattle.pepa_reader.proofs.Places.{begins_there}
+use Rattle.token_grammar.proofs.Places.{begins_there}
 use Rattle.pepa_reader.proofs.ItemLaws.{begins_item, can_go_on, cant_go_on}
 
 -- ---- items that aren't read
@@ -36,7 +39,7 @@ pub record Stopped (kinds : List Terminal) (at i : ℕ) : Type 0 where
   pub lines : List Line
   pub short : AreShort lines
   pub text : List Terminal
-  pub state : State
+  pub state : ParserState
   pub whole : kinds ≡ (lines_spelled lines ++ text) ++ drop i kinds
   pub from : at ≡ length (lines_spelled lines)
   pub index : i ≡ at + length text
@@ -74,22 +77,22 @@ in_item kinds at i h =
     }
 
 -- the first terminal is refused
-refused_step : (state : State) (terminal : Terminal) (rest more : List Terminal) → rest ≡ terminal ∷ more → Refuses state rest → step state terminal ≡ None
+refused_step : (state : ParserState) (terminal : Terminal) (rest more : List Terminal) → rest ≡ terminal ∷ more → CannotGoOn state rest → step state terminal ≡ None
 refused_step state terminal rest more e r = rw e at r
 
 -- where the machine refuses the terminal, it can't follow
-pub cant_follow : (kinds : List Terminal) (at i : ℕ) (h : Stopped kinds at i) → Refuses h.state (drop i kinds) → CantFollow kinds i
+pub cant_follow : (kinds : List Terminal) (at i : ℕ) (h : Stopped kinds at i) → CannotGoOn h.state (drop i kinds) → CantFollow IsFile kinds i
 cant_follow kinds at i h refused =
     let terminal = get_or kinds i End in
     let e : drop i kinds ≡ terminal ∷ drop (suc i) kinds = drop-cons kinds i End h.within in
     record {
       within = h.within;
-      before = subst CanGoOn (sym (before_stop kinds at i h)) (can_go_on h.lines h.text h.state h.ran h.undone);
-      behind = λ go. cant_go_on h.lines h.text h.state terminal h.ran h.undone (refused_step h.state terminal (drop i kinds) (drop (suc i) kinds) e refused) (subst CanGoOn (behind_stop kinds at i h terminal e) go);
+      before = subst (CanGoOn IsFile) (sym (before_stop kinds at i h)) (can_go_on h.lines h.text h.state h.ran h.undone);
+      behind = λ go. cant_go_on h.lines h.text h.state terminal h.ran h.undone (refused_step h.state terminal (drop i kinds) (drop (suc i) kinds) e refused) (subst (CanGoOn IsFile) (behind_stop kinds at i h terminal e) go);
     }
 
 -- a refused terminal of the first 2,048
-pub is_refused : (kinds : List Terminal) (at i : ℕ) (h : Stopped kinds at i) → i ≤ at + most_tokens → i ≢ at + most_tokens → Refuses h.state (drop i kinds) → ¬ IsProbeLine kinds at i → IsRefused kinds i
+pub is_refused : (kinds : List Terminal) (at i : ℕ) (h : Stopped kinds at i) → i ≤ at + most_tokens → i ≢ at + most_tokens → CannotGoOn h.state (drop i kinds) → ¬ IsProbeLine kinds at i → IsRefusedAtToken kinds i
 is_refused kinds at i h few not_deep refused no_line =
     record {
       first = cant_follow kinds at i h refused;
@@ -106,11 +109,11 @@ is_refused kinds at i h few not_deep refused no_line =
 
 -- behind the word `probe` a `=` is wanted
 pub probe_runs : run start (Probe ∷ []) ≡ Some (WantEquals Probing)
-unfolding run step
+unfolding runs step
 probe_runs = refl
 
 -- so no `=` is refused there
-no_equals_behind : (state : State) (rest : List Terminal) → state ≡ WantEquals Probing → Refuses state rest → ¬ Begins rest (Mark Equals)
+no_equals_behind : (state : ParserState) (rest : List Terminal) → state ≡ WantEquals Probing → CannotGoOn state rest → ¬ Begins rest (Mark Equals)
 unfolding step
 no_equals_behind state [] e refused b = b
 no_equals_behind state (first ∷ more) e refused b =
@@ -127,8 +130,8 @@ one_probe (t ∷ []) front back one e b = ap (λ u. u ∷ []) (first e b)
 one_probe (t ∷ u ∷ more) front back one e b = absurd (omega arith)
 
 -- what is refused at once behind `probe` makes a probe line
-pub begins_probe_line : (kinds : List Terminal) (at i : ℕ) (h : Stopped kinds at i) → drop at kinds ≡ h.text ++ drop i kinds → Refuses h.state (drop i kinds) → IsProbeLine kinds at i → BeginsProbeLine kinds at
-unfolding run
+pub begins_probe_line : (kinds : List Terminal) (at i : ℕ) (h : Stopped kinds at i) → drop at kinds ≡ h.text ++ drop i kinds → CannotGoOn h.state (drop i kinds) → IsProbeLine kinds at i → BeginsProbeLine kinds at
+unfolding runs
 begins_probe_line kinds at i h spelled refused line =
     let one : h.text ≡ Probe ∷ [] = one_probe h.text (drop at kinds) (drop i kinds) (omega (arith, h.index, line.0)) spelled (begins_there kinds at Probe line.1) in
     let state : h.state ≡ WantEquals Probing = same_Some h.state (WantEquals Probing) (sym h.ran ∙ ap (run start) one ∙ probe_runs) in

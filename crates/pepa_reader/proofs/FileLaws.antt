@@ -1,22 +1,26 @@
 -- Tokens have one answer: a file has no fault, and there is one fault at most.
-use Rattle.std.proofs.Common.{◌≡◌, ℕ, ◌+◌, ◌-◌, ◌<◌, ◌≤◌, List, [], ◌∷◌, ◌++◌, length, get_or, take, drop, suc, Some, None, slice_get, ◌⊎◌, inl, inr, refl, sym, ap, subst, ◌∙◌, append_assoc, append-nil, length-append, arith}
+use Rattle.std.proofs.Common.{◌≡◌, ℕ, ◌+◌, ◌<◌, ◌≤◌, List, [], ◌∷◌, ◌++◌, length, get_or, take, drop, suc, Some, None, slice_get, ◌⊎◌, inl, inr, refl, sym, ap, subst, ◌∙◌, append_assoc, append-nil, length-append, arith}
 use Rattle.std.proofs.lemmas.List.{take-append-drop, length-take-le, length-drop}
 use Rattle.std.proofs.lemmas.Option.{same_Some, option_and_then_some, slice_get_within}
-use Rattle.std.proofs.Math.Seq.{take-add, drop-cons}
+use Rattle.std.proofs.Math.Seq.{drop-cons}
 use Rattle.pepa_lexer.specs.declared.kinds.Token.{Token}
 use Rattle.pepa_lexer.specs.declared.kinds.Place.{Place}
 use Rattle.pepa_lexer.specs.declared.kinds.Sign.TheVariants.{Equals, Star, OpeningBracket}
-use Rattle.pepa_reader.specs.declared.terminal.Terminal.{Terminal}
-use Rattle.pepa_reader.specs.declared.terminal.Terminal.TheVariants.{Probe, Mark, End}
+use Rattle.token_grammar.specs.declared.terminal.Terminal.{Terminal}
+use Rattle.token_grammar.specs.declared.terminal.Terminal.TheVariants.{Probe, Mark, End}
+use Rattle.token_grammar.proofs.GoingOn.{can_before, not_before, cant_cant}
+use Rattle.token_grammar.proofs.Runs.{run-append}
+use Rattle.token_grammar.specs.Machines.{runs}
 use Rattle.pepa_reader.specs.declared.fault.FileFault.{FileFault}
 use Rattle.pepa_reader.specs.declared.fault.FileFault.TheVariants.{Expected, TooDeep, Array, Wildcard, Unsupported, Memory}
-use Rattle.pepa_reader.specs.Terminals.{terminals}
+use Rattle.token_grammar.specs.Terminals.{terminals}
 use Rattle.pepa_reader.specs.Grammar.{Probing, Process, Line, Ending, Item, OneLine, System, File, line_spelled, item_spelled, lines_spelled, file_spelled}
-use Rattle.pepa_reader.specs.FileAnswers.{most_tokens, CanGoOn, StandsAt, CantFollow, AreShort, IsInItem, BeginsProbeLine, IsRefused, IsWildcard, IsFaultAt, Tells, IsFileFault}
-use Rattle.pepa_reader.specs.Machine.{State, WantEquals, Done, step, run, start}
-use Rattle.pepa_reader.specs.Reading.{Begins}
-use Rattle.pepa_reader.proofs.MachineRuns.{run-append, item_runs}
-use Rattle.pepa_reader.proofs.Places.{begins_there, stands_there}
+use Rattle.pepa_reader.specs.FileAnswers.{most_tokens, AreShort, IsInItem, BeginsProbeLine, IsFile, IsRefusedAtToken, IsWildcard, IsFaultAt, IsPlaceOf, IsFileFault}
+use Rattle.token_grammar.specs.Languages.{CanGoOn, StandsAt, CantFollow}
+use Rattle.pepa_reader.specs.Machine.{ParserState, WantEquals, Done, step, run, start}
+use Rattle.token_grammar.specs.Cursors.{Begins}
+use Rattle.pepa_reader.proofs.MachineRuns.{item_runs}
+use Rattle.token_grammar.proofs.Places.{begins_there, stands_there}
 use Rattle.pepa_reader.proofs.FaultReading.{front_taken, probe_runs}
 use Rattle.pepa_reader.proofs.ItemLaws.{one_item, item_goes_on, can_go_on, cant_go_on}
 
@@ -101,8 +105,8 @@ is_probe_front rest behind first e begins other = subst IsProbeFront (sym e) (ca
     cases _ behind p no_equals = cc
 
 -- the machine reads no second terminal there
-probe_stops : (text more : List Terminal) (state : State) → IsProbeFront (text ++ more) → 1 < length text → run start text ≡ Some state → ⊥
-unfolding run step
+probe_stops : (text more : List Terminal) (state : ParserState) → IsProbeFront (text ++ more) → 1 < length text → run start text ≡ Some state → ⊥
+unfolding runs step
 probe_stops [] more state p long ran = absurd (omega arith)
 probe_stops (t ∷ []) more state p long ran = absurd (omega arith)
 probe_stops (Probe ∷ Mark Equals ∷ text) more state p long ran = p
@@ -111,7 +115,7 @@ probe_stops (_ ∷ u ∷ text) more state p long ran = p
 
 -- no item begins so
 no_item_there : (text more : List Terminal) (item : Item) → IsProbeFront (text ++ more) → run start text ≡ Some (Done item) → ⊥
-unfolding run step
+unfolding runs step
 no_item_there [] more item p ran = cc
 no_item_there (Probe ∷ []) more item p ran = cc
 no_item_there (_ ∷ []) more item p ran = p
@@ -122,31 +126,21 @@ no_item_at_probe : (rest more : List Terminal) (item : Item) → IsProbeFront re
 no_item_at_probe rest more item p e = no_item_there (item_spelled item) more item (subst IsProbeFront e p) (item_runs item)
 
 -- the machine reads a part of an item
-part_runs : (n : ℕ) (item : Item) → (state : State) × (run start (take n (item_spelled item)) ≡ Some state)
+part_runs : (n : ℕ) (item : Item) → (state : ParserState) × (run start (take n (item_spelled item)) ≡ Some state)
 part_runs n item =
     option_and_then_some (λ next. run next (drop n (item_spelled item))) (run start (take n (item_spelled item))) (Done item)
-    (sym (run-append start (take n (item_spelled item)) (drop n (item_spelled item))) ∙ ap (run start) (take-append-drop n (item_spelled item)) ∙ item_runs item)
+    (sym (run-append step start (take n (item_spelled item)) (drop n (item_spelled item))) ∙ ap (run start) (take-append-drop n (item_spelled item)) ∙ item_runs item)
     (λ state ran more. (state, ran))
 
 -- ---- where terminals can go on
-
--- a front can go on where the whole can
-shorter : (a b : List Terminal) → CanGoOn (a ++ b) → CanGoOn a
-shorter a b go = (b ++ go.0, (go.1.0, sym (append_assoc a b go.0) ∙ go.1.1))
-
--- and so can what stands before
-can_before : (kinds : List Terminal) (i j : ℕ) → i ≤ j → CanGoOn (take j kinds) → CanGoOn (take i kinds)
-can_before kinds i j h go =
-    let e : take j kinds ≡ take i kinds ++ take (j - i) (drop i kinds) = ap (λ n. take n kinds) (omega (arith, h)) ∙ take-add i (j - i) kinds in
-    shorter (take i kinds) (take (j - i) (drop i kinds)) (subst CanGoOn e go)
 
 -- what stands behind the lines
 behind_lines : (kinds : List Terminal) (i begun : ℕ) (h : IsInItem kinds i begun) → kinds ≡ lines_spelled h.lines ++ (take begun (item_spelled h.item) ++ drop i kinds)
 behind_lines kinds i begun h = sym (take-append-drop i kinds) ∙ ap (λ l. l ++ drop i kinds) h.before ∙ append_assoc (lines_spelled h.lines) (take begun (item_spelled h.item)) (drop i kinds)
 
 -- a part of an item can go on
-item_can_go_on : (kinds : List Terminal) (i begun : ℕ) → IsInItem kinds i begun → CanGoOn (take i kinds)
-item_can_go_on kinds i begun h = subst CanGoOn (sym h.before) (item_goes_on h.lines h.item (take begun (item_spelled h.item)) (drop begun (item_spelled h.item)) (sym (take-append-drop begun (item_spelled h.item))))
+item_can_go_on : (kinds : List Terminal) (i begun : ℕ) → IsInItem kinds i begun → CanGoOn IsFile (take i kinds)
+item_can_go_on kinds i begun h = subst (CanGoOn IsFile) (sym h.before) (item_goes_on h.lines h.item (take begun (item_spelled h.item)) (drop begun (item_spelled h.item)) (sym (take-append-drop begun (item_spelled h.item))))
 
 -- a `probe` line, and what stands before it
 record Probes (kinds : List Terminal) (i : ℕ) : Type 0 where
@@ -173,16 +167,8 @@ probes kinds i h =
 
 -- ---- two faults
 
--- no terminal can follow, and some can: the second isn't behind the first
-not_before : (kinds : List Terminal) (i j : ℕ) → CantFollow kinds i → CanGoOn (take j kinds) → j ≤ i
-not_before kinds i j h go = omega (arith, λ (before : i < j). h.behind (can_before kinds (i + 1) j (omega arith) go))
-
--- one terminal is the first that can't follow
-cant_cant : (kinds : List Terminal) (i j : ℕ) → CantFollow kinds i → CantFollow kinds j → i ≡ j
-cant_cant kinds i j h k = omega (arith, not_before kinds i j h k.before, not_before kinds j i k h.before)
-
 -- no item of too many terminals beside a refused terminal
-refused_deep : (kinds : List Terminal) (i j : ℕ) → IsRefused kinds i → IsInItem kinds j most_tokens → ⊥
+refused_deep : (kinds : List Terminal) (i j : ℕ) → IsRefusedAtToken kinds i → IsInItem kinds j most_tokens → ⊥
 refused_deep kinds i j h k =
     let a = h.in_item in
     let before : j ≤ i = not_before kinds i j h.first (item_can_go_on kinds j most_tokens k) in
@@ -252,30 +238,30 @@ front_second (Probe ∷ second ∷ more) p long = (second, more, refl, refl)
 front_second _ p long = absurd p
 
 -- up to the word `probe` terminals can go on
-probe_goes_on : (kinds : List Terminal) (j : ℕ) → Probes kinds j → CanGoOn (take (j + 1) kinds)
+probe_goes_on : (kinds : List Terminal) (j : ℕ) → Probes kinds j → CanGoOn IsFile (take (j + 1) kinds)
 probe_goes_on kinds j k =
     let front = front_probe (drop j kinds) k.front in
     let text = Probe ∷ [] in
     let e : take (j + 1) kinds ≡ lines_spelled k.lines ++ text =
     front_taken kinds (lines_spelled k.lines ++ text) front.0 (j + 1) (k.whole ∙ ap (λ l. lines_spelled k.lines ++ l) front.1 ∙ sym (append_assoc (lines_spelled k.lines) text front.0)) (omega (arith, k.index, length-append (lines_spelled k.lines) text)) in
-    subst CanGoOn (sym e) (can_go_on k.lines text (WantEquals Probing) probe_runs tt)
+    subst (CanGoOn IsFile) (sym e) (can_go_on k.lines text (WantEquals Probing) probe_runs tt)
 
 -- with what stands behind `probe` they can't
-probe_ends : (kinds : List Terminal) (j : ℕ) → Probes kinds j → j + 1 < length kinds → ¬ CanGoOn (take (j + 2) kinds)
+probe_ends : (kinds : List Terminal) (j : ℕ) → Probes kinds j → j + 1 < length kinds → ¬ CanGoOn IsFile (take (j + 2) kinds)
 probe_ends kinds j k some =
     let front = front_second (drop j kinds) k.front (omega (arith, length-drop j kinds)) in
     let text = Probe ∷ front.0 ∷ [] in
     let e : take (j + 2) kinds ≡ lines_spelled k.lines ++ text =
     front_taken kinds (lines_spelled k.lines ++ text) front.1 (j + 2) (k.whole ∙ ap (λ l. lines_spelled k.lines ++ l) front.2 ∙ sym (append_assoc (lines_spelled k.lines) text front.1)) (omega (arith, k.index, length-append (lines_spelled k.lines) text)) in
-    λ go. cant_go_on k.lines (Probe ∷ []) (WantEquals Probing) front.0 probe_runs tt front.3 (subst CanGoOn e go)
+    λ go. cant_go_on k.lines (Probe ∷ []) (WantEquals Probing) front.0 probe_runs tt front.3 (subst (CanGoOn IsFile) e go)
 
 -- no refused terminal beside a probe line
-refused_probe : (kinds : List Terminal) (i j : ℕ) → IsRefused kinds i → BeginsProbeLine kinds j → ⊥
+refused_probe : (kinds : List Terminal) (i j : ℕ) → IsRefusedAtToken kinds i → BeginsProbeLine kinds j → ⊥
 refused_probe kinds i j h probe =
     let k = probes kinds j probe in
     let a = h.in_item in
     let behind : j + 1 ≤ i = not_before kinds i (j + 1) h.first (probe_goes_on kinds j k) in
-    let next : i ≡ j + 1 = omega (arith, h.first.within, λ (far : j + 2 ≤ i). probe_ends kinds j k (omega (arith, h.first.within, far)) (can_before kinds (j + 2) i far h.first.before)) in
+    let next : i ≡ j + 1 = omega (arith, h.first.within, λ (far : j + 2 ≤ i). probe_ends kinds j k (omega (arith, h.first.within, far)) (can_before IsFile kinds (j + 2) i far h.first.before)) in
     elim (line_up a.lines k.lines (take h.begun (item_spelled a.item) ++ drop i kinds) (drop j kinds) (sym (behind_lines kinds i h.begun a) ∙ k.whole)) [
       | inl e ↦ h.no_probe_line j (omega (arith, e.len, a.index, k.index, next)) next probe.probe
       | inr e ↦ elim e [
@@ -287,7 +273,7 @@ refused_probe kinds i j h probe =
 -- ---- files and faults
 
 -- in a file every terminal can follow
-file_cant : (file : File) (i : ℕ) → ¬ CantFollow (file_spelled file) i
+file_cant : (file : File) (i : ℕ) → ¬ CantFollow IsFile (file_spelled file) i
 file_cant file i h = h.behind (drop (i + 1) (file_spelled file), (file, take-append-drop (i + 1) (file_spelled file)))
 
 -- its items are short
@@ -331,7 +317,7 @@ no_fault file i Memory short short_system h = h
 
 -- why there is a fault at an index
 abbrev Class : List Terminal → ℕ → Type 0
-Class kinds i = IsRefused kinds i ⊎ (IsInItem kinds i most_tokens ⊎ BeginsProbeLine kinds i)
+Class kinds i = IsRefusedAtToken kinds i ⊎ (IsInItem kinds i most_tokens ⊎ BeginsProbeLine kinds i)
 
 -- a refused terminal, an item of too many, or a probe line
 class_of : (kinds : List Terminal) (i : ℕ) (fault : FileFault) → IsFaultAt kinds i fault → Class kinds i
@@ -366,7 +352,7 @@ no_wild_array kinds i array wildcard = differ (sym array ∙ wildcard.0)
     differ e = cc
 
 -- faults at one index, at one place, are one
-same_fault : (kinds : List Terminal) (i : ℕ) (place : Place) (fault other : FileFault) → IsFaultAt kinds i fault → IsFaultAt kinds i other → Tells fault place → Tells other place → fault ≡ other
+same_fault : (kinds : List Terminal) (i : ℕ) (place : Place) (fault other : FileFault) → IsFaultAt kinds i fault → IsFaultAt kinds i other → IsPlaceOf fault place → IsPlaceOf other place → fault ≡ other
 same_fault kinds i place (Expected p) (Expected q) h k there here = cc
 same_fault kinds i place (Expected p) (Array q) h k there here = absurd (h.1 k.1)
 same_fault kinds i place (Expected p) (Wildcard q) h k there here = absurd (h.2 k.1)
@@ -401,4 +387,4 @@ one_fault input tokens fault other h k =
     let kinds = terminals input tokens in
     let index = one_index kinds h.i k.i fault other h.is_fault k.is_fault in
     let token : h.token ≡ k.token = same_Some h.token k.token (sym h.is_token ∙ ap (slice_get tokens) index ∙ k.is_token) in
-    same_fault kinds h.i h.token.place fault other h.is_fault (subst (λ n. IsFaultAt kinds n other) (sym index) k.is_fault) h.place (subst (λ t. Tells other t.place) (sym token) k.place)
+    same_fault kinds h.i h.token.place fault other h.is_fault (subst (λ n. IsFaultAt kinds n other) (sym index) k.is_fault) h.place (subst (λ t. IsPlaceOf other t.place) (sym token) k.place)

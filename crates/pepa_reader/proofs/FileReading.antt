@@ -6,20 +6,20 @@ use Rattle.std.proofs.lemmas.List.{map-append, length-map}
 use Rattle.std.proofs.Math.ListN.{drop_of_length-le}
 use Rattle.pepa_lexer.specs.declared.kinds.Token.{Token}
 use Rattle.pepa_lexer.specs.declared.kinds.Sign.TheVariants.{Equals, Semicolon}
-use Rattle.pepa_reader.specs.declared.terminal.Terminal.{Terminal}
-use Rattle.pepa_reader.specs.declared.terminal.Terminal.TheVariants.{Capital, Mark, End}
+use Rattle.token_grammar.specs.declared.terminal.Terminal.{Terminal}
+use Rattle.token_grammar.specs.declared.terminal.Terminal.TheVariants.{Capital, Mark, End}
 use Rattle.pepa_reader.specs.declared.trees.RateLine.{RateLine}
 use Rattle.pepa_reader.specs.declared.trees.ProcessLine.{ProcessLine}
 use Rattle.pepa_reader.specs.declared.trees.ProcessTree.{ProcessTree}
 use Rattle.pepa_reader.specs.declared.trees.FileTree.{FileTree}
 use Rattle.pepa_reader.specs.declared.items.Item.TheVariants.{Rate, Process, System}
 use Rattle.pepa_reader.specs.declared.fault.FileFault.{FileFault}
-use Rattle.pepa_reader.specs.Terminals.{terminals, terminal_of}
+use Rattle.token_grammar.specs.Terminals.{terminals, terminal_of}
 use Rattle.pepa_reader.specs.Grammar as g
 use Rattle.pepa_reader.specs.Grammar.{Line, RateNamed, ProcessNamed, Ending, Open, Closed, OneLine, small_spelled, rate_spelled, process_spelled, ending_spelled, line_spelled, lines_spelled, item_spelled}
 use Rattle.pepa_reader.specs.Trees.{RateNode, ProcessNode, RateLineNode, ProcessLineNode, FileNode, rate_node_of, rate_tree, process_tree, rate_line_of, process_line_of, process_node_of, rate_lines_from, process_lines_from}
 use Rattle.pepa_reader.specs.FileAnswers.{most_tokens, AreShort, IsFileTree, ReadsFile}
-use Rattle.pepa_reader.specs.Reading.{IsSpelled}
+use Rattle.token_grammar.specs.Cursors.{IsSpelledFrom}
 use Rattle.pepa_reader.specs.ItemReading.{IsEnded, IsItem, ReadsItemAt}
 use Rattle.pepa_reader.proofs.FaultReading.{file_fails}
 
@@ -99,16 +99,16 @@ pub nothing_read : (kinds : List Terminal) → ReadSoFar kinds 0 [] []
 nothing_read kinds = record { lines = []; short = tt; whole = refl; from = refl; rates_are = refl; processes_are = refl }
 
 -- one more line has been read
-more_whole : (kinds : List Terminal) (at next : ℕ) (lines : List Line) (line : Line) → kinds ≡ lines_spelled lines ++ drop at kinds → IsSpelled kinds at next (line_spelled line) → kinds ≡ lines_spelled (lines ++ line ∷ []) ++ drop next kinds
+more_whole : (kinds : List Terminal) (at next : ℕ) (lines : List Line) (line : Line) → kinds ≡ lines_spelled lines ++ drop at kinds → IsSpelledFrom kinds at next (line_spelled line) → kinds ≡ lines_spelled (lines ++ line ∷ []) ++ drop next kinds
 more_whole kinds at next lines line whole spelled =
     whole ∙ ap (λ l. lines_spelled lines ++ l) spelled.whole ∙ sym (append_assoc (lines_spelled lines) (line_spelled line) (drop next kinds)) ∙ ap (λ l. l ++ drop next kinds) (sym (lines_more lines line))
 
 -- the index behind it
-more_from : (at next : ℕ) (kinds : List Terminal) (lines : List Line) (line : Line) → at ≡ length (lines_spelled lines) → IsSpelled kinds at next (line_spelled line) → next ≡ length (lines_spelled (lines ++ line ∷ []))
+more_from : (at next : ℕ) (kinds : List Terminal) (lines : List Line) (line : Line) → at ≡ length (lines_spelled lines) → IsSpelledFrom kinds at next (line_spelled line) → next ≡ length (lines_spelled (lines ++ line ∷ []))
 more_from at next kinds lines line from spelled = omega (arith, from, spelled.index, ap length (lines_more lines line), length-append (lines_spelled lines) (line_spelled line))
 
 -- behind a line something stands
-line_inside : (kinds : List Terminal) (at next : ℕ) (lines : List Line) (line : Line) → IsEnded kinds → kinds ≡ lines_spelled lines ++ drop at kinds → IsSpelled kinds at next (line_spelled line) → next < length kinds
+line_inside : (kinds : List Terminal) (at next : ℕ) (lines : List Line) (line : Line) → IsEnded kinds → kinds ≡ lines_spelled lines ++ drop at kinds → IsSpelledFrom kinds at next (line_spelled line) → next < length kinds
 line_inside kinds at next lines line ended whole spelled = omega (arith, λ (past : length kinds ≤ next). other (last_same (lines_spelled lines ++ (line_front line).0) ended.0 (Mark Semicolon) End (sym (at_end past) ∙ ended.1)))
   where
     other : Mark Semicolon ≡ End → ⊥
@@ -133,7 +133,7 @@ process_node : ℕ → ProcessNode → ProcessLineNode
 process_node n tree = record { line_at = n; body = tree }
 
 -- a rate line more
-rate_more : (kinds : List Terminal) (at next : ℕ) (rates : List RateLine) (processes : List ProcessLine) (line : RateLine) (item : g.Item) → ReadSoFar kinds at rates processes → IsEnded kinds → IsSpelled kinds at next (item_spelled item) → IsItem at (Rate line) item → next ≤ at + most_tokens → ReadSoFar kinds next (rates ++ line ∷ []) processes × (next < length kinds)
+rate_more : (kinds : List Terminal) (at next : ℕ) (rates : List RateLine) (processes : List ProcessLine) (line : RateLine) (item : g.Item) → ReadSoFar kinds at rates processes → IsEnded kinds → IsSpelledFrom kinds at next (item_spelled item) → IsItem at (Rate line) item → next ≤ at + most_tokens → ReadSoFar kinds next (rates ++ line ∷ []) processes × (next < length kinds)
 unfolding rate_node
 rate_more kinds at next rates processes line (OneLine (RateNamed name rate)) h ended spelled is few =
     let added = RateNamed name rate in
@@ -154,7 +154,7 @@ rate_more kinds at next rates processes line (OneLine (RateNamed name rate)) h e
 rate_more kinds at next rates processes line _ h ended spelled is few = absurd is
 
 -- a process line more
-process_more : (kinds : List Terminal) (at next : ℕ) (rates : List RateLine) (processes : List ProcessLine) (line : ProcessLine) (item : g.Item) → ReadSoFar kinds at rates processes → IsEnded kinds → IsSpelled kinds at next (item_spelled item) → IsItem at (Process line) item → next ≤ at + most_tokens → ReadSoFar kinds next rates (processes ++ line ∷ []) × (next < length kinds)
+process_more : (kinds : List Terminal) (at next : ℕ) (rates : List RateLine) (processes : List ProcessLine) (line : ProcessLine) (item : g.Item) → ReadSoFar kinds at rates processes → IsEnded kinds → IsSpelledFrom kinds at next (item_spelled item) → IsItem at (Process line) item → next ≤ at + most_tokens → ReadSoFar kinds next rates (processes ++ line ∷ []) × (next < length kinds)
 unfolding process_node
 process_more kinds at next rates processes line (OneLine (ProcessNamed process)) h ended spelled is few =
     let added = ProcessNamed process in
@@ -175,7 +175,7 @@ process_more kinds at next rates processes line (OneLine (ProcessNamed process))
 process_more kinds at next rates processes line _ h ended spelled is few = absurd is
 
 -- behind the system nothing stands
-system_ends : (kinds : List Terminal) (at next : ℕ) (lines : List Line) (process : g.Process) (ending : Ending) → IsEnded kinds → kinds ≡ lines_spelled lines ++ drop at kinds → IsSpelled kinds at next (item_spelled (g.System process ending)) → drop next kinds ≡ []
+system_ends : (kinds : List Terminal) (at next : ℕ) (lines : List Line) (process : g.Process) (ending : Ending) → IsEnded kinds → kinds ≡ lines_spelled lines ++ drop at kinds → IsSpelledFrom kinds at next (item_spelled (g.System process ending)) → drop next kinds ≡ []
 system_ends kinds at next lines process ending ended whole spelled =
     let end = ending_front ending in
     let rest = drop next kinds in
@@ -190,7 +190,7 @@ same_parts : (a b : List RateLineNode) (c d : List ProcessLineNode) (p q : Proce
 same_parts a b c d p q e f h = ap (λ x. file_node x c p) e ∙ ap (λ x. file_node b x p) f ∙ ap (file_node b d) h
 
 -- the system is read last
-is_file : (kinds : List Terminal) (at next : ℕ) (file : FileTree) (item : g.Item) → ReadSoFar kinds at file.rates file.processes → IsEnded kinds → IsSpelled kinds at next (item_spelled item) → IsItem at (System file.system) item → next ≤ at + most_tokens → IsFileTree kinds file
+is_file : (kinds : List Terminal) (at next : ℕ) (file : FileTree) (item : g.Item) → ReadSoFar kinds at file.rates file.processes → IsEnded kinds → IsSpelledFrom kinds at next (item_spelled item) → IsItem at (System file.system) item → next ≤ at + most_tokens → IsFileTree kinds file
 unfolding file_node
 is_file kinds at next file (g.System process ending) h ended spelled is few =
     record {

@@ -2,13 +2,14 @@
 use Rattle.std.proofs.Common.{◌≡◌, ◌≢◌, ℕ, zero, suc, ◌+◌, ◌-◌, ◌<◌, ◌≤◌, min, List, [], ◌∷◌, ◌++◌, length, take, drop, refl, sym, ap, subst, ◌∙◌, append_assoc, append-nil, length-append, arith, Some}
 use Rattle.std.proofs.lemmas.List.{take-append-drop, length-drop, length-take-le, length-map, take-map}
 use Rattle.std.proofs.Math.ListN.{drop_of_length-le}
-use Rattle.pepa_reader.specs.declared.terminal.Terminal.{Terminal}
-use Rattle.pepa_reader.specs.declared.terminal.Terminal.TheVariants.{End}
-use Rattle.pepa_reader.specs.Machine.{State, IsUndone, run, start}
+use Rattle.token_grammar.specs.declared.terminal.Terminal.{Terminal}
+use Rattle.token_grammar.specs.declared.terminal.Terminal.TheVariants.{End}
+use Rattle.pepa_reader.specs.Machine.{ParserState, IsUndone, run, start}
 use Rattle.pepa_reader.specs.Grammar.{item_spelled}
 use Rattle.pepa_reader.specs.FileAnswers.{most_tokens}
-use Rattle.pepa_reader.specs.Terminals.{terminals, terminal_of}
-use Rattle.pepa_reader.specs.Reading.{IsSpelled, Refuses, Stops}
+use Rattle.token_grammar.specs.Terminals.{terminals, terminal_of}
+use Rattle.token_grammar.specs.Cursors.{IsSpelledFrom}
+use Rattle.pepa_reader.specs.Reading.{CannotGoOn, Stops}
 use Rattle.pepa_reader.specs.ItemReading.{IsEnded, IsItemRead, IsCause, IsItemFault}
 use Rattle.pepa_reader.specs.declared.items.ItemRead.{ItemRead}
 use Rattle.pepa_reader.specs.declared.fault.FileFault.{FileFault}
@@ -24,12 +25,12 @@ drop_front (first ∷ more) (suc at) zero h = absurd (omega arith)
 drop_front (first ∷ more) (suc at) (suc n) h = drop_front more at n (omega arith)
 
 -- a text in a front ends in it
-pub ends_in_front : (kinds : List Terminal) (n at next : ℕ) (text : List Terminal) → at ≤ n → n ≤ length kinds → IsSpelled (take n kinds) at next text → next ≤ n
+pub ends_in_front : (kinds : List Terminal) (n at next : ℕ) (text : List Terminal) → at ≤ n → n ≤ length kinds → IsSpelledFrom (take n kinds) at next text → next ≤ n
 ends_in_front kinds n at next text within short h =
     omega (arith, h.index, ap length h.whole, length-append text (drop next (take n kinds)), length-drop at (take n kinds), length-drop next (take n kinds), length-take-le n kinds short)
 
 -- what stands in the front stands in the whole
-pub spelled_in_front : (kinds : List Terminal) (n at next : ℕ) (text : List Terminal) → at ≤ n → next ≤ n → IsSpelled (take n kinds) at next text → IsSpelled kinds at next text
+pub spelled_in_front : (kinds : List Terminal) (n at next : ℕ) (text : List Terminal) → at ≤ n → next ≤ n → IsSpelledFrom (take n kinds) at next text → IsSpelledFrom kinds at next text
 spelled_in_front kinds n at next text within behind h =
     record {
       whole = drop_front kinds at n within ∙ ap (λ l. l ++ drop n kinds) h.whole ∙ append_assoc text (drop next (take n kinds)) (drop n kinds) ∙ ap (λ l. text ++ l) (sym (drop_front kinds next n behind));
@@ -37,12 +38,12 @@ spelled_in_front kinds n at next text within behind h =
     }
 
 -- only the first terminal counts
-refuses_longer : (state : State) (front back : List Terminal) → 0 < length front → Refuses state front → Refuses state (front ++ back)
+refuses_longer : (state : ParserState) (front back : List Terminal) → 0 < length front → CannotGoOn state front → CannotGoOn state (front ++ back)
 refuses_longer state [] back some r = absurd (omega arith)
 refuses_longer state (first ∷ more) back some r = r
 
 -- what is refused before the front's end is refused
-pub refuses_in_front : (kinds : List Terminal) (n i : ℕ) (state : State) → i < n → n ≤ length kinds → Refuses state (drop i (take n kinds)) → Refuses state (drop i kinds)
+pub refuses_in_front : (kinds : List Terminal) (n i : ℕ) (state : ParserState) → i < n → n ≤ length kinds → CannotGoOn state (drop i (take n kinds)) → CannotGoOn state (drop i kinds)
 refuses_in_front kinds n i state within short r =
     let some : 0 < length (drop i (take n kinds)) = omega (arith, length-drop i (take n kinds), length-take-le n kinds short) in
     rw (drop_front kinds i n (omega arith)) (refuses_longer state (drop i (take n kinds)) (drop n kinds) some r)
@@ -54,7 +55,7 @@ drop_in_left [] b (suc at) h = absurd (omega arith)
 drop_in_left (first ∷ more) b (suc at) h = drop_in_left more b at (omega arith)
 
 -- an item that isn't whole stops before the end of the tokens
-pub stops_inside : (kinds : List Terminal) (at i : ℕ) (text : List Terminal) (state : State) → IsEnded kinds → at < length kinds → IsSpelled kinds at i text → run start text ≡ Some state → IsUndone state → i < length kinds
+pub stops_inside : (kinds : List Terminal) (at i : ℕ) (text : List Terminal) (state : ParserState) → IsEnded kinds → at < length kinds → IsSpelledFrom kinds at i text → run start text ≡ Some state → IsUndone state → i < length kinds
 stops_inside kinds at i text state ended within h ran undone = omega (arith, λ (past : length kinds ≤ i). no_end_inside (drop at ended.0) state (ran_to_end past) undone)
   where
     inside : at ≤ length ended.0
@@ -77,7 +78,7 @@ kinds_len input tokens = length-map tokens (terminal_of input)
 pub item_in_front : (input : List ℕ) (tokens few : List Token) (at n : ℕ) (read : ItemRead) → few ≡ take n tokens → at ≤ n → n ≤ length tokens → n ≤ at + most_tokens → IsItemRead (terminals input few) at read → IsItemRead (terminals input tokens) at read × (read.next ≤ at + most_tokens)
 item_in_front input tokens few at n read front within short room h =
     let kinds = terminals input tokens in
-    let spelled = subst (λ l. IsSpelled l at read.next (item_spelled h.item)) (front_kinds input tokens few n front) h.spelled in
+    let spelled = subst (λ l. IsSpelledFrom l at read.next (item_spelled h.item)) (front_kinds input tokens few n front) h.spelled in
     let behind : read.next ≤ n = ends_in_front kinds n at read.next (item_spelled h.item) within (rw (kinds_len input tokens) short) spelled in
     (record { item = h.item; spelled = spelled_in_front kinds n at read.next (item_spelled h.item) within behind spelled; tree = h.tree }, omega arith)
 
@@ -86,7 +87,7 @@ pub stop_in_front : (input : List ℕ) (tokens few : List Token) (at n i : ℕ) 
 stop_in_front input tokens few at n i front within short inside ended h =
     let kinds = terminals input tokens in
     let len = kinds_len input tokens in
-    let spelled = subst (λ l. IsSpelled l at i h.text) (front_kinds input tokens few n front) h.spelled in
+    let spelled = subst (λ l. IsSpelledFrom l at i h.text) (front_kinds input tokens few n front) h.spelled in
     let behind : i ≤ n = ends_in_front kinds n at i h.text within (omega arith) spelled in
     let before : i < length kinds = stops_inside kinds at i h.text h.state ended (omega arith) (spelled_in_front kinds n at i h.text within behind spelled) h.ran h.undone in
     (behind, omega arith)
@@ -100,8 +101,8 @@ fault_in_front input tokens few at n i fault front room inside ended h cause =
     let short : n ≤ length tokens = omega arith in
     let stop = stop_in_front input tokens few at n i front within short inside ended h in
     let same = front_kinds input tokens few n front in
-    let spelled = subst (λ l. IsSpelled l at i h.text) same h.spelled in
-    let refused = subst (λ l. Refuses h.state (drop i l)) same h.refused in
+    let spelled = subst (λ l. IsSpelledFrom l at i h.text) same h.spelled in
+    let refused = subst (λ l. CannotGoOn h.state (drop i l)) same h.refused in
     record {
       i = i;
       state = h.state;

@@ -5,12 +5,15 @@ use Rattle.std.proofs.lemmas.Option.{same_Some, option_and_then_some}
 use Rattle.std.proofs.lemmas.List.{append_cancel_left}
 use Rattle.std.proofs.lemmas.Grind.{flat_map-append}
 use Rattle.std.proofs.Math.Seq.{take-append_seam}
-use Rattle.pepa_reader.specs.declared.terminal.Terminal.{Terminal}
-use Rattle.pepa_reader.specs.declared.terminal.Terminal.TheVariants.{Capital, End}
+use Rattle.token_grammar.specs.declared.terminal.Terminal.{Terminal}
+use Rattle.token_grammar.specs.declared.terminal.Terminal.TheVariants.{Capital, End}
+use Rattle.token_grammar.proofs.Runs.{run-append, run_along}
+use Rattle.token_grammar.specs.Machines.{runs}
 use Rattle.pepa_reader.specs.Grammar.{Process, OneChoice, OneHidden, OnePrefix, Constant, Line, Ending, Open, Item, OneLine, System, File, line_spelled, item_spelled, lines_spelled, file_spelled}
-use Rattle.pepa_reader.specs.Machine.{State, Done, step, run, start, IsUndone}
-use Rattle.pepa_reader.specs.FileAnswers.{CanGoOn}
-use Rattle.pepa_reader.proofs.MachineRuns.{run-append, run_along, item_runs}
+use Rattle.pepa_reader.specs.Machine.{ParserState, Done, step, run, start, IsUndone}
+use Rattle.token_grammar.specs.Languages.{CanGoOn}
+use Rattle.pepa_reader.specs.FileAnswers.{IsFile}
+use Rattle.pepa_reader.proofs.MachineRuns.{item_runs}
 use Rattle.pepa_reader.proofs.MachineTexts.{run_reads}
 use Rattle.pepa_reader.proofs.MachineEnds.{ends, end_ends}
 
@@ -37,18 +40,18 @@ one_front (t ∷ a) (u ∷ b) x y e = elim (one_front a b x y (cc)) [ inl h ↦ 
 -- ---- items that are whole
 
 -- behind a whole item nothing is read
-done_stays : (item : Item) (text : List Terminal) (state : State) → run (Done item) text ≡ Some state → (text ≡ []) × (state ≡ Done item)
-unfolding step run
+done_stays : (item : Item) (text : List Terminal) (state : ParserState) → run (Done item) text ≡ Some state → (text ≡ []) × (state ≡ Done item)
+unfolding step runs
 done_stays item [] state h = (refl, sym (same_Some (Done item) state h))
 done_stays item (terminal ∷ more) state h = cc
 
 -- an unfinished state is no item's end
-not_done : (state : State) (item : Item) → IsUndone state → state ≡ Done item → ⊥
+not_done : (state : ParserState) (item : Item) → IsUndone state → state ≡ Done item → ⊥
 not_done state item undone e = subst IsUndone e undone
 
 -- no item begins with another
 item_alone : (a b : Item) (d : List Terminal) → item_spelled b ≡ item_spelled a ++ d → a ≡ b
-item_alone a b d e = same_item (done_stays a d (Done b) (sym (run_along start (Done a) (item_spelled a) d (item_runs a)) ∙ ap (run start) (sym e) ∙ item_runs b)).1
+item_alone a b d e = same_item (done_stays a d (Done b) (sym (run_along step start (Done a) (item_spelled a) d (item_runs a)) ∙ ap (run start) (sym e) ∙ item_runs b)).1
   where
     same_item : Done b ≡ Done a → a ≡ b
     same_item h = cc
@@ -71,8 +74,8 @@ pub record Completed (text : List Terminal) : Type 0 where
   pub some : 0 < length more
 
 -- each begun item is completed by some terminals
-pub completed : (text : List Terminal) (state : State) → run start text ≡ Some state → IsUndone state → Completed text
-unfolding run
+pub completed : (text : List Terminal) (state : ParserState) → run start text ≡ Some state → IsUndone state → Completed text
+unfolding runs
 completed text state ran undone = go (ends state undone).0 (ends state undone).1 (ends state undone).2
   where
     some_more : (more : List Terminal) (item : Item) → run state more ≡ Some (Done item) → 0 < length more
@@ -80,16 +83,16 @@ completed text state ran undone = go (ends state undone).0 (ends state undone).1
     some_more (terminal ∷ more) item h = omega arith
 
     go : (more : List Terminal) (item : Item) → run state more ≡ Some (Done item) → Completed text
-    go more item h = record { item = item; more = more; spelled = run_reads (text ++ more) (Done item) (run_along start state text more ran ∙ h); some = some_more more item h }
+    go more item h = record { item = item; more = more; spelled = run_reads (text ++ more) (Done item) (run_along step start state text more ran ∙ h); some = some_more more item h }
 
 -- terminals that lead to an unfinished state begin an item
-pub begins_item : (text : List Terminal) (state : State) → run start text ≡ Some state → IsUndone state → (item : Item) × (text ≡ take (length text) (item_spelled item)) × (length text < length (item_spelled item))
+pub begins_item : (text : List Terminal) (state : ParserState) → run start text ≡ Some state → IsUndone state → (item : Item) × (text ≡ take (length text) (item_spelled item)) × (length text < length (item_spelled item))
 begins_item text state ran undone =
     let done = completed text state ran undone in
     (done.item, sym (ap (take (length text)) done.spelled ∙ take-append_seam text done.more), omega (arith, ap length done.spelled, length-append text done.more, done.some))
 
 -- behind a line a system can stand, and behind a system nothing
-pub item_goes_on : (lines : List Line) (item : Item) (text more : List Terminal) → item_spelled item ≡ text ++ more → CanGoOn (lines_spelled lines ++ text)
+pub item_goes_on : (lines : List Line) (item : Item) (text more : List Terminal) → item_spelled item ≡ text ++ more → CanGoOn IsFile (lines_spelled lines ++ text)
 item_goes_on lines (OneLine line) text more e = (
   more ++ Capital ∷ End ∷ [],
   (
@@ -109,15 +112,15 @@ item_goes_on lines (System process ending) text more e = (
 )
 
 -- lines and a begun item can be continued to a file
-pub can_go_on : (lines : List Line) (text : List Terminal) (state : State) → run start text ≡ Some state → IsUndone state → CanGoOn (lines_spelled lines ++ text)
+pub can_go_on : (lines : List Line) (text : List Terminal) (state : ParserState) → run start text ≡ Some state → IsUndone state → CanGoOn IsFile (lines_spelled lines ++ text)
 can_go_on lines text state ran undone =
     let done = completed text state ran undone in
     item_goes_on lines done.item text done.more done.spelled
 
 -- an item can't begin with what the machine refuses
-refused : (text : List Terminal) (state : State) (terminal : Terminal) (more : List Terminal) (item : Item) (rest : List Terminal) → run start text ≡ Some state → IsUndone state → step state terminal ≡ None → text ++ terminal ∷ more ≡ item_spelled item ++ rest → ⊥
-unfolding run
-refused text state terminal more item rest ran undone none e = elim (one_front text (item_spelled item) (terminal ∷ more) rest e) [ inl h ↦ longer h.d h.longer h.behind | inr h ↦ not_done state item undone (done_stays item h.d state (sym (run_along start (Done item) (item_spelled item) h.d (item_runs item)) ∙ ap (run start) (sym h.longer) ∙ ran)).1 ]
+refused : (text : List Terminal) (state : ParserState) (terminal : Terminal) (more : List Terminal) (item : Item) (rest : List Terminal) → run start text ≡ Some state → IsUndone state → step state terminal ≡ None → text ++ terminal ∷ more ≡ item_spelled item ++ rest → ⊥
+unfolding runs
+refused text state terminal more item rest ran undone none e = elim (one_front text (item_spelled item) (terminal ∷ more) rest e) [ inl h ↦ longer h.d h.longer h.behind | inr h ↦ not_done state item undone (done_stays item h.d state (sym (run_along step start (Done item) (item_spelled item) h.d (item_runs item)) ∙ ap (run start) (sym h.longer) ∙ ran)).1 ]
   where
     no_step : (d : List Terminal) → run state (terminal ∷ d) ≡ Some (Done item) → ⊥
     no_step d h = none_made (sym (ap (λ o. option_and_then (λ next. run next d) o) none) ∙ h)
@@ -127,7 +130,7 @@ refused text state terminal more item rest ran undone none e = elim (one_front t
 
     longer : (d : List Terminal) → item_spelled item ≡ text ++ d → terminal ∷ more ≡ d ++ rest → ⊥
     longer [] l b = not_done state item undone (same_Some state (Done item) (sym ran ∙ ap (run start) (sym (append-nil text) ∙ sym l) ∙ item_runs item))
-    longer (t ∷ d) l b = no_step d (sym (run_along start state text (terminal ∷ d) ran) ∙ ap (λ u. run start (text ++ u ∷ d)) same ∙ ap (run start) (sym l) ∙ item_runs item)
+    longer (t ∷ d) l b = no_step d (sym (run_along step start state text (terminal ∷ d) ran) ∙ ap (λ u. run start (text ++ u ∷ d)) same ∙ ap (run start) (sym l) ∙ item_runs item)
       where
         same : terminal ≡ t
         same = cc
@@ -140,14 +143,14 @@ no_line line process ending x y e = differ (one_item (OneLine line) (System proc
     differ h = cc
 
 -- lines, a begun item and a terminal that the machine refuses aren't the front of a file
-no_file : (lines others : List Line) (process : Process) (ending : Ending) (text : List Terminal) (state : State) (terminal : Terminal) (more : List Terminal) → run start text ≡ Some state → IsUndone state → step state terminal ≡ None → lines_spelled lines ++ (text ++ terminal ∷ more) ≡ lines_spelled others ++ item_spelled (System process ending) → ⊥
+no_file : (lines others : List Line) (process : Process) (ending : Ending) (text : List Terminal) (state : ParserState) (terminal : Terminal) (more : List Terminal) → run start text ≡ Some state → IsUndone state → step state terminal ≡ None → lines_spelled lines ++ (text ++ terminal ∷ more) ≡ lines_spelled others ++ item_spelled (System process ending) → ⊥
 no_file [] [] process ending text state terminal more ran undone none e = refused text state terminal more (System process ending) [] ran undone none (e ∙ sym (append-nil (item_spelled (System process ending))))
 no_file [] (other ∷ others) process ending text state terminal more ran undone none e = refused text state terminal more (OneLine other) (lines_spelled others ++ item_spelled (System process ending)) ran undone none (e ∙ append_assoc (line_spelled other) (lines_spelled others) (item_spelled (System process ending)))
 no_file (line ∷ lines) [] process ending text state terminal more ran undone none e = no_line line process ending (lines_spelled lines ++ (text ++ terminal ∷ more)) [] (sym (append_assoc (line_spelled line) (lines_spelled lines) (text ++ terminal ∷ more)) ∙ e ∙ sym (append-nil (item_spelled (System process ending))))
 no_file (line ∷ lines) (other ∷ others) process ending text state terminal more ran undone none e = no_file lines others process ending text state terminal more ran undone none (one_item (OneLine line) (OneLine other) (lines_spelled lines ++ (text ++ terminal ∷ more)) (lines_spelled others ++ item_spelled (System process ending)) (sym (append_assoc (line_spelled line) (lines_spelled lines) (text ++ terminal ∷ more)) ∙ e ∙ append_assoc (line_spelled other) (lines_spelled others) (item_spelled (System process ending)))).1
 
 -- no file begins with lines, a begun item, and what the machine refuses
-pub cant_go_on : (lines : List Line) (text : List Terminal) (state : State) (terminal : Terminal) → run start text ≡ Some state → IsUndone state → step state terminal ≡ None → ¬ CanGoOn (lines_spelled lines ++ (text ++ terminal ∷ []))
+pub cant_go_on : (lines : List Line) (text : List Terminal) (state : ParserState) (terminal : Terminal) → run start text ≡ Some state → IsUndone state → step state terminal ≡ None → ¬ CanGoOn IsFile (lines_spelled lines ++ (text ++ terminal ∷ []))
 cant_go_on lines text state terminal ran undone none go =
     let more = go.0 in
     let file = go.1.0 in
@@ -155,10 +158,10 @@ cant_go_on lines text state terminal ran undone none go =
     (ap (λ l. lines_spelled lines ++ l) (sym (append_assoc text (terminal ∷ []) more)) ∙ sym (append_assoc (lines_spelled lines) (text ++ terminal ∷ []) more) ∙ go.1.1)
 
 -- the end of the text ends an item
-pub no_end_inside : (text : List Terminal) (state : State) → run start (text ++ End ∷ []) ≡ Some state → ¬ IsUndone state
-unfolding run
+pub no_end_inside : (text : List Terminal) (state : ParserState) → run start (text ++ End ∷ []) ≡ Some state → ¬ IsUndone state
+unfolding runs
 no_end_inside text state ran undone =
-    option_and_then_some (λ next. run next (End ∷ [])) (run start text) state (sym (run-append start text (End ∷ [])) ∙ ran) (λ mid came last.
+    option_and_then_some (λ next. run next (End ∷ [])) (run start text) state (sym (run-append step start text (End ∷ [])) ∙ ran) (λ mid came last.
     option_and_then_some (λ next. Some next) (step mid End) state last (λ next made same.
     let ended = end_ends mid next made in
     not_done state ended.0 undone (sym (same_Some next state same) ∙ ended.1)))

@@ -3,9 +3,7 @@ pub mod MachineStates
 pub mod MachineTexts
 pub mod MachineEnds
 pub mod ItemLaws
-pub mod Spelled
 pub mod RateReading
-pub mod Places
 pub mod LineReading
 pub mod TokenEnds
 pub mod FrontReading

@@ -2,26 +2,28 @@
 use Rattle.std.proofs.Common.{◌≡◌, List, [], ◌∷◌, ◌++◌, Option, Some, None, refl, sym, subst, ◌∙◌}
 use Rattle.std.proofs.lemmas.Option.{same_Some}
 use Rattle.pepa_lexer.specs.declared.kinds.Sign.TheVariants.{Equals, Semicolon, Closing, Comma, Dot, Greater, OpeningBrace, ClosingBrace}
-use Rattle.pepa_reader.specs.declared.terminal.Terminal.{Terminal}
-use Rattle.pepa_reader.specs.declared.terminal.Terminal.TheVariants.{Tau, Capital, Number, Mark, End}
+use Rattle.token_grammar.specs.declared.terminal.Terminal.{Terminal}
+use Rattle.token_grammar.specs.declared.terminal.Terminal.TheVariants.{Tau, Capital, Number, Mark, End}
+use Rattle.token_grammar.proofs.Runs.{run_step}
+use Rattle.token_grammar.specs.Machines.{runs}
 use Rattle.pepa_reader.specs.Grammar.{Word, Internal, Factor, Amount, Bracketed, Rate, Computed, Sharing, Hidden, OnePrefix, Hiding, Prefix, Activity, Constant, Grouped, RateNamed, ProcessNamed, Open, Closed, Item, OneLine, System}
-use Rattle.pepa_reader.specs.Machine.{Pending, ChosenSoFar, Joining, Outer, InLine, InSystem, InBrackets, RatePlace, OfLine, OfActivity, Summing, Multiplying, RateOuter, Whole, InRateBrackets, SetPlace, OfCooperation, OfHiding, State, Want, After, WantEquals, WantComma, WantFactor, AfterFactor, AfterTop, WantDot, WantBrace, AtSet, AfterWord, WantWord, WantEnd, Done, whole_process, whole_sum, after, closes_rate, closes_set, step, run, IsUndone}
-use Rattle.pepa_reader.proofs.MachineRuns.{run_step, closes_after_factor, closes_words, closes_no_words}
+use Rattle.pepa_reader.specs.Machine.{Pending, ChosenSoFar, Joining, Outer, InLine, InSystem, InBrackets, RatePlace, OfLine, OfActivity, Summing, Multiplying, RateOuter, Whole, InRateBrackets, SetPlace, OfCooperation, OfHiding, ParserState, Want, After, WantEquals, WantComma, WantFactor, AfterFactor, AfterTop, WantDot, WantBrace, AtSet, AfterWord, WantWord, WantEnd, Done, whole_process, whole_sum, after, closes_rate, closes_set, step, run, IsUndone}
+use Rattle.pepa_reader.proofs.MachineRuns.{closes_after_factor, closes_words, closes_no_words}
 
 -- ---- what completes an item
 
 -- terminals that lead from the state to the end of an item
-abbrev pub Ends : State → Type 0
+abbrev pub Ends : ParserState → Type 0
 Ends state = (more : List Terminal) × (item : Item) × (run state more ≡ Some (Done item))
 
 -- an item that is whole wants nothing more
 done_ends : (item : Item) → Ends (Done item)
-unfolding run
+unfolding runs
 done_ends item = ([], item, refl)
 
 -- one step more
-step_ends : (state next : State) (terminal : Terminal) → step state terminal ≡ Some next → Ends next → Ends state
-step_ends state next terminal made ends = (terminal ∷ ends.0, ends.1, run_step state next terminal ends.0 made ∙ ends.2)
+step_ends : (state next : ParserState) (terminal : Terminal) → step state terminal ≡ Some next → Ends next → Ends state
+step_ends state next terminal made ends = (terminal ∷ ends.0, ends.1, run_step step state next terminal ends.0 made ∙ ends.2)
 
 -- the prefix with its pending activities around it
 around : List Pending → Prefix → Prefix
@@ -57,7 +59,7 @@ unfolding step
 want_dot_ends word rate pending chosen joining outer = step_ends (WantDot word rate pending chosen joining outer) (Want (record { word = word; rate = rate } ∷ pending) chosen joining outer) (Mark Dot) refl (want_ends (record { word = word; rate = rate } ∷ pending) chosen joining outer)
 
 -- behind a whole rate
-place_ends : (state : State) (rate : Rate) (place : RatePlace) → ((terminal : Terminal) (next : State) → closes_rate rate place terminal ≡ Some next → step state terminal ≡ Some next) → Ends state
+place_ends : (state : ParserState) (rate : Rate) (place : RatePlace) → ((terminal : Terminal) (next : ParserState) → closes_rate rate place terminal ≡ Some next → step state terminal ≡ Some next) → Ends state
 place_ends state rate (OfLine name) closing = step_ends state (Done (OneLine (RateNamed name rate))) (Mark Semicolon) (closing (Mark Semicolon) _ refl) (done_ends _)
 place_ends state rate (OfActivity word pending chosen joining outer) closing = step_ends state (WantDot word rate pending chosen joining outer) (Mark Closing) (closing (Mark Closing) _ refl) (want_dot_ends word rate pending chosen joining outer)
 
@@ -75,7 +77,7 @@ unfolding step
 want_factor_ends summing multiplying outer = step_ends (WantFactor summing multiplying outer) (AfterFactor Amount summing multiplying outer) Number refl (after_factor_ends outer Amount summing multiplying)
 
 -- behind a set
-set_ends : (state : State) (place : SetPlace) (words : List Word) → ((close : Terminal) (next : State) → closes_set place words close ≡ Some next → step state close ≡ Some next) → Ends state
+set_ends : (state : ParserState) (place : SetPlace) (words : List Word) → ((close : Terminal) (next : ParserState) → closes_set place words close ≡ Some next → step state close ≡ Some next) → Ends state
 set_ends state (OfCooperation process outer) words closing = step_ends state _ (Mark Greater) (closing (Mark Greater) _ refl) (want_ends [] None (Some (record { process = process; coop = Sharing words })) outer)
 set_ends state (OfHiding hidden chosen joining outer) words closing = step_ends state _ (Mark ClosingBrace) (closing (Mark ClosingBrace) _ refl) (after_hidden_ends outer (Hiding hidden words) chosen joining)
 
@@ -88,7 +90,7 @@ after_word_ends : (place : SetPlace) (words : List Word) → Ends (AfterWord pla
 after_word_ends place words = set_ends (AfterWord place words) place words (closes_words place words)
 
 -- each unfinished state can be completed to an item
-pub ends : (state : State) → IsUndone state → (more : List Terminal) × (item : Item) × (run state more ≡ Some (Done item))
+pub ends : (state : ParserState) → IsUndone state → (more : List Terminal) × (item : Item) × (run state more ≡ Some (Done item))
 unfolding step
 ends (Want pending chosen joining outer) undone = want_ends pending chosen joining outer
 ends (After hidden chosen joining outer) undone = after_hidden_ends outer hidden chosen joining
@@ -108,11 +110,11 @@ ends (Done item) undone = absurd undone
 -- ---- the end of the text ends an item
 
 -- what is made is an item
-made_item : (item : Item) (next : State) → Some (Done item) ≡ Some next → (item : Item) × (next ≡ Done item)
+made_item : (item : Item) (next : ParserState) → Some (Done item) ≡ Some next → (item : Item) × (next ≡ Done item)
 made_item item next h = (item, sym (same_Some (Done item) next h))
 
 -- only a whole system takes the end, and then it is an item
-pub end_ends : (state next : State) → step state End ≡ Some next → (item : Item) × (next ≡ Done item)
+pub end_ends : (state next : ParserState) → step state End ≡ Some next → (item : Item) × (next ≡ Done item)
 unfolding step
 end_ends (After hidden chosen joining InSystem) next h = made_item (System (whole_process joining chosen hidden) Open) next h
 end_ends (WantEnd process) next h = made_item (System process Closed) next h

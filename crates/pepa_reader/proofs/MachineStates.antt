@@ -2,22 +2,22 @@
 -- no word read.
 use Rattle.std.proofs.Common.{◌≡◌, List, [], ◌∷◌, ◌++◌, Option, Some, None, subst}
 use Rattle.pepa_lexer.specs.declared.kinds.Sign.TheVariants.{Equals, Semicolon, Opening, Closing, Comma, Dot, Plus, Minus, Star, Slash, Less, Greater, Or, OpeningBrace, ClosingBrace}
-use Rattle.pepa_reader.specs.declared.terminal.Terminal.{Terminal}
-use Rattle.pepa_reader.specs.declared.terminal.Terminal.TheVariants.{Small, Probe, Tau, Capital, Top, Mark, End}
+use Rattle.token_grammar.specs.declared.terminal.Terminal.{Terminal}
+use Rattle.token_grammar.specs.declared.terminal.Terminal.TheVariants.{Small, Probe, Tau, Capital, Top, Mark, End}
 use Rattle.pepa_reader.specs.Grammar.{Plain, Probing, Word, Named, Internal, ProductSign, Multiplied, Sum, Product, OneFactor, Factor, Amount, Rate, Computed, Process, Hidden, OnePrefix, Prefix, Activity, Constant, Grouped}
-use Rattle.pepa_reader.specs.Machine.{Pending, ChosenSoFar, Joining, Outer, InLine, InSystem, InBrackets, RatePlace, OfLine, OfActivity, Summing, Multiplying, RateOuter, Whole, InRateBrackets, SetPlace, OfCooperation, OfHiding, State, Want, After, WantEquals, WantComma, WantFactor, AfterFactor, AfterTop, WantDot, WantBrace, AtSet, AfterWord, WantWord, whole_process, whole_sum, after, starts, want_step, names_line, closes, after_step, weighted_step, want_factor_step, closes_rate, closes_sum, after_factor_step, closes_set, step}
+use Rattle.pepa_reader.specs.Machine.{Pending, ChosenSoFar, Joining, Outer, InLine, InSystem, InBrackets, RatePlace, OfLine, OfActivity, Summing, Multiplying, RateOuter, Whole, InRateBrackets, SetPlace, OfCooperation, OfHiding, ParserState, Want, After, WantEquals, WantComma, WantFactor, AfterFactor, AfterTop, WantDot, WantBrace, AtSet, AfterWord, WantWord, whole_process, whole_sum, after, starts, want_step, names_line, closes, after_step, weighted_step, want_factor_step, closes_rate, closes_sum, after_factor_step, closes_set, step}
 
 -- behind a word of a set, or a comma, at least one word has been read; the machine comes to no other states
 abbrev pub HasWord : List Word → Type 0
 HasWord [] = ⊥
 HasWord (word ∷ words) = Unit {0}
 
-abbrev pub IsMet : State → Type 0
+abbrev pub IsMet : ParserState → Type 0
 IsMet (AfterWord place words) = HasWord words
 IsMet (WantWord place words) = HasWord words
 IsMet _ = Unit {0}
 
-abbrev IsMetIf : Option State → Type 0
+abbrev IsMetIf : Option ParserState → Type 0
 IsMetIf None = Unit {0}
 IsMetIf (Some state) = IsMet state
 
@@ -96,7 +96,7 @@ has_word [] word = tt
 has_word (first ∷ words) word = tt
 
 -- whatever step there is leads to a state that is met
-step_met : (state : State) (terminal : Terminal) → IsMet state → IsMetIf (step state terminal)
+step_met : (state : ParserState) (terminal : Terminal) → IsMet state → IsMetIf (step state terminal)
 unfolding step
 step_met (Want pending chosen joining outer) terminal met = want_met pending chosen joining outer terminal
 step_met (After hidden chosen joining outer) terminal met = after_step_met hidden chosen joining outer terminal
@@ -120,5 +120,5 @@ step_met _ End met = tt
 step_met _ _ met = tt
 
 -- a step from a state that is met leads to one that is met
-pub step_keeps : (state : State) (terminal : Terminal) (next : State) → IsMet state → step state terminal ≡ Some next → IsMet next
+pub step_keeps : (state : ParserState) (terminal : Terminal) (next : ParserState) → IsMet state → step state terminal ≡ Some next → IsMet next
 step_keeps state terminal next met h = subst IsMetIf h (step_met state terminal met)

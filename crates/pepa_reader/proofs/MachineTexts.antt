@@ -2,10 +2,11 @@
 use Rattle.std.proofs.Common.{◌≡◌, List, [], ◌∷◌, ◌++◌, Option, Some, None, refl, ap, sym, subst, ◌∙◌, append_assoc, append-nil}
 use Rattle.std.proofs.lemmas.Option.{same_Some, option_and_then_some}
 use Rattle.pepa_lexer.specs.declared.kinds.Sign.TheVariants.{Equals, Semicolon, Opening, Closing, Comma, Dot, Plus, Minus, Star, Slash, Less, Greater, Or, OpeningBrace, ClosingBrace}
-use Rattle.pepa_reader.specs.declared.terminal.Terminal.{Terminal}
-use Rattle.pepa_reader.specs.declared.terminal.Terminal.TheVariants.{Small, Probe, Tau, Capital, Top, Number, Mark, End}
+use Rattle.token_grammar.specs.declared.terminal.Terminal.{Terminal}
+use Rattle.token_grammar.specs.declared.terminal.Terminal.TheVariants.{Small, Probe, Tau, Capital, Top, Number, Mark, End}
+use Rattle.token_grammar.specs.Machines.{runs}
 use Rattle.pepa_reader.specs.Grammar.{Plain, Probing, Word, Named, Internal, Added, Subtracted, ProductSign, Multiplied, Divided, Sum, Product, OneFactor, Factor, Amount, Naming, Bracketed, Rate, Passive, Weighted, Computed, Parallel, Process, Hidden, OnePrefix, Prefix, Activity, Constant, Grouped, RateNamed, ProcessNamed, Open, Closed, OneLine, System, small_spelled, word_spelled, further_words, words_spelled, sum_sign_spelled, product_sign_spelled, sum_spelled, product_spelled, factor_spelled, rate_spelled, cooperation_spelled, process_spelled, choice_spelled, hidden_spelled, prefix_spelled, item_spelled}
-use Rattle.pepa_reader.specs.Machine.{Pending, ChosenSoFar, Joining, Outer, InLine, InSystem, InBrackets, RatePlace, OfLine, OfActivity, Summing, Multiplying, RateOuter, Whole, InRateBrackets, SetPlace, OfCooperation, OfHiding, State, Want, After, WantEquals, WantComma, WantFactor, AfterFactor, AfterTop, WantDot, WantBrace, AtSet, AfterWord, WantWord, WantEnd, Done, chosen_with, whole_process, product_with, whole_sum, after, set_read, starts, want_step, names_line, closes, after_step, weighted_step, top_step, want_factor_step, closes_rate, closes_sum, after_factor_step, takes_word, closes_set, at_set_step, after_word_step, step, run, start}
+use Rattle.pepa_reader.specs.Machine.{Pending, ChosenSoFar, Joining, Outer, InLine, InSystem, InBrackets, RatePlace, OfLine, OfActivity, Summing, Multiplying, RateOuter, Whole, InRateBrackets, SetPlace, OfCooperation, OfHiding, ParserState, Want, After, WantEquals, WantComma, WantFactor, AfterFactor, AfterTop, WantDot, WantBrace, AtSet, AfterWord, WantWord, WantEnd, Done, chosen_with, whole_process, product_with, whole_sum, after, set_read, starts, want_step, names_line, closes, after_step, weighted_step, top_step, want_factor_step, closes_rate, closes_sum, after_factor_step, takes_word, closes_set, at_set_step, after_word_step, step, run, start}
 use Rattle.pepa_reader.proofs.MachineStates.{HasWord, IsMet, step_keeps}
 
 -- ---- what has been read to come to a state
@@ -65,7 +66,7 @@ set_place_text (OfCooperation process outer) = outer_text outer ++ (process_spel
 set_place_text (OfHiding hidden chosen joining outer) = outer_text outer ++ (joining_text joining ++ (chosen_text chosen ++ (hidden_spelled hidden ++ Mark Slash ∷ Mark OpeningBrace ∷ [])))
 
 -- what has been read to come to the state
-abbrev pub text_of_state : State → List Terminal
+abbrev pub text_of_state : ParserState → List Terminal
 text_of_state (Want pending chosen joining outer) = want_text pending chosen joining outer []
 text_of_state (After hidden chosen joining outer) = outer_text outer ++ (joining_text joining ++ (chosen_text chosen ++ hidden_spelled hidden))
 text_of_state (WantEquals name) = small_spelled name ∷ []
@@ -118,17 +119,17 @@ words_text (first ∷ words) word h = ap (λ l. word_spelled first ∷ l) (furth
 -- ---- each step reads its terminal
 
 -- what is said of the state that a step makes holds of the state that it comes to
-reads : (made next : State) (text : List Terminal) → Some made ≡ Some next → text_of_state made ≡ text → text_of_state next ≡ text
+reads : (made next : ParserState) (text : List Terminal) → Some made ≡ Some next → text_of_state made ≡ text → text_of_state next ≡ text
 reads made next text h e = subst (λ state. text_of_state state ≡ text) (same_Some made next h) e
 
 -- the start of a rate line or of an activity
-starts_reads : (pending : List Pending) (chosen : ChosenSoFar) (joining : Option Joining) (outer : Outer) (word : Word) (next : State) → starts pending chosen joining outer word ≡ Some next → text_of_state next ≡ want_text pending chosen joining outer [] ++ word_spelled word ∷ []
+starts_reads : (pending : List Pending) (chosen : ChosenSoFar) (joining : Option Joining) (outer : Outer) (word : Word) (next : ParserState) → starts pending chosen joining outer word ≡ Some next → text_of_state next ≡ want_text pending chosen joining outer [] ++ word_spelled word ∷ []
 starts_reads [] None None InSystem (Named name) next h = reads (WantEquals name) next _ h refl
 starts_reads [] None None (InBrackets pending chosen joining outer) word next h = reads (WantComma word pending chosen joining outer) next _ h (simp (append_assoc, append-nil))
 starts_reads _ _ _ _ _ next h = cc
 
 -- the start of a prefix
-want_reads : (pending : List Pending) (chosen : ChosenSoFar) (joining : Option Joining) (outer : Outer) (terminal : Terminal) (next : State) → want_step pending chosen joining outer terminal ≡ Some next → text_of_state next ≡ want_text pending chosen joining outer [] ++ terminal ∷ []
+want_reads : (pending : List Pending) (chosen : ChosenSoFar) (joining : Option Joining) (outer : Outer) (terminal : Terminal) (next : ParserState) → want_step pending chosen joining outer terminal ≡ Some next → text_of_state next ≡ want_text pending chosen joining outer [] ++ terminal ∷ []
 want_reads pending chosen joining outer Capital next h = reads (after pending Constant chosen joining outer) next _ h (after_text pending Constant chosen joining outer ∙ simp append_assoc)
 want_reads pending chosen joining outer (Mark Opening) next h = reads (Want [] None None (InBrackets pending chosen joining outer)) next _ h (simp (append_assoc, append-nil))
 want_reads pending chosen joining outer Small next h = starts_reads pending chosen joining outer (Named Plain) next h
@@ -137,12 +138,12 @@ want_reads pending chosen joining outer Tau next h = starts_reads pending chosen
 want_reads pending chosen joining outer _ next h = cc
 
 -- the `=` of a process line
-names_line_reads : (hidden : Hidden) (chosen : ChosenSoFar) (joining : Option Joining) (outer : Outer) (next : State) → names_line hidden chosen joining outer ≡ Some next → text_of_state next ≡ text_of_state (After hidden chosen joining outer) ++ Mark Equals ∷ []
+names_line_reads : (hidden : Hidden) (chosen : ChosenSoFar) (joining : Option Joining) (outer : Outer) (next : ParserState) → names_line hidden chosen joining outer ≡ Some next → text_of_state next ≡ text_of_state (After hidden chosen joining outer) ++ Mark Equals ∷ []
 names_line_reads (OnePrefix Constant) None None InSystem next h = reads (Want [] None None InLine) next _ h refl
 names_line_reads _ _ _ _ next h = cc
 
 -- what closes a process
-closes_reads : (process : Process) (outer : Outer) (terminal : Terminal) (next : State) → closes process outer terminal ≡ Some next → text_of_state next ≡ outer_text outer ++ (process_spelled process ++ terminal ∷ [])
+closes_reads : (process : Process) (outer : Outer) (terminal : Terminal) (next : ParserState) → closes process outer terminal ≡ Some next → text_of_state next ≡ outer_text outer ++ (process_spelled process ++ terminal ∷ [])
 closes_reads process InLine (Mark Semicolon) next h = reads (Done (OneLine (ProcessNamed process))) next _ h refl
 closes_reads process InSystem (Mark Semicolon) next h = reads (WantEnd process) next _ h refl
 closes_reads process InSystem End next h = reads (Done (System process Open)) next _ h refl
@@ -154,7 +155,7 @@ behind_text : (hidden : Hidden) (chosen : ChosenSoFar) (joining : Option Joining
 behind_text hidden chosen joining outer behind = simp (append_assoc, process_with_text joining chosen hidden)
 
 -- what stands behind a prefix
-after_reads : (hidden : Hidden) (chosen : ChosenSoFar) (joining : Option Joining) (outer : Outer) (terminal : Terminal) (next : State) → after_step hidden chosen joining outer terminal ≡ Some next → text_of_state next ≡ text_of_state (After hidden chosen joining outer) ++ terminal ∷ []
+after_reads : (hidden : Hidden) (chosen : ChosenSoFar) (joining : Option Joining) (outer : Outer) (terminal : Terminal) (next : ParserState) → after_step hidden chosen joining outer terminal ≡ Some next → text_of_state next ≡ text_of_state (After hidden chosen joining outer) ++ terminal ∷ []
 after_reads hidden chosen joining outer (Mark Slash) next h = reads (WantBrace hidden chosen joining outer) next _ h (simp append_assoc)
 after_reads hidden chosen joining outer (Mark Plus) next h = reads (Want [] (Some (chosen_with chosen hidden)) joining outer) next _ h (simp (append_assoc, append-nil, choice_with_text chosen hidden))
 after_reads hidden chosen joining outer (Mark Or) next h = reads (Want [] None (Some (record { process = whole_process joining chosen hidden; coop = Parallel })) outer) next _ h (simp (append_assoc, append-nil, process_with_text joining chosen hidden))
@@ -163,7 +164,7 @@ after_reads hidden chosen joining outer (Mark Equals) next h = names_line_reads 
 after_reads hidden chosen joining outer terminal next h = closes_reads (whole_process joining chosen hidden) outer terminal next h ∙ behind_text hidden chosen joining outer (terminal ∷ [])
 
 -- `infty` behind its weight
-weighted_reads : (multiplying : Multiplying) (place : RatePlace) (next : State) → weighted_step multiplying.product multiplying.sign place ≡ Some next → text_of_state next ≡ place_text place ++ (multiplying_text (Some multiplying) ++ Top ∷ [])
+weighted_reads : (multiplying : Multiplying) (place : RatePlace) (next : ParserState) → weighted_step multiplying.product multiplying.sign place ≡ Some next → text_of_state next ≡ place_text place ++ (multiplying_text (Some multiplying) ++ Top ∷ [])
 weighted_reads multiplying place next h = go multiplying.product multiplying.sign h
   where
     go : (product : Product) (sign : ProductSign) → weighted_step product sign place ≡ Some next → text_of_state next ≡ place_text place ++ ((product_spelled product ++ product_sign_spelled sign ∷ []) ++ Top ∷ [])
@@ -171,13 +172,13 @@ weighted_reads multiplying place next h = go multiplying.product multiplying.sig
     go _ _ h' = cc
 
 -- `infty` for a whole rate, or behind its weight
-top_reads : (summing : Option Summing) (multiplying : Option Multiplying) (outer : RateOuter) (next : State) → top_step summing multiplying outer ≡ Some next → text_of_state next ≡ text_of_state (WantFactor summing multiplying outer) ++ Top ∷ []
+top_reads : (summing : Option Summing) (multiplying : Option Multiplying) (outer : RateOuter) (next : ParserState) → top_step summing multiplying outer ≡ Some next → text_of_state next ≡ text_of_state (WantFactor summing multiplying outer) ++ Top ∷ []
 top_reads None None (Whole place) next h = reads (AfterTop Passive place) next _ h (simp append-nil)
 top_reads None (Some multiplying) (Whole place) next h = weighted_reads multiplying place next h ∙ simp append_assoc
 top_reads _ _ _ next h = cc
 
 -- the start of a factor
-want_factor_reads : (summing : Option Summing) (multiplying : Option Multiplying) (outer : RateOuter) (terminal : Terminal) (next : State) → want_factor_step summing multiplying outer terminal ≡ Some next → text_of_state next ≡ text_of_state (WantFactor summing multiplying outer) ++ terminal ∷ []
+want_factor_reads : (summing : Option Summing) (multiplying : Option Multiplying) (outer : RateOuter) (terminal : Terminal) (next : ParserState) → want_factor_step summing multiplying outer terminal ≡ Some next → text_of_state next ≡ text_of_state (WantFactor summing multiplying outer) ++ terminal ∷ []
 want_factor_reads summing multiplying outer Number next h = reads (AfterFactor Amount summing multiplying outer) next _ h (simp append_assoc)
 want_factor_reads summing multiplying outer Small next h = reads (AfterFactor (Naming Plain) summing multiplying outer) next _ h (simp append_assoc)
 want_factor_reads summing multiplying outer Probe next h = reads (AfterFactor (Naming Probing) summing multiplying outer) next _ h (simp append_assoc)
@@ -186,13 +187,13 @@ want_factor_reads summing multiplying outer Top next h = top_reads summing multi
 want_factor_reads summing multiplying outer _ next h = cc
 
 -- what closes a rate
-closes_rate_reads : (rate : Rate) (place : RatePlace) (terminal : Terminal) (next : State) → closes_rate rate place terminal ≡ Some next → text_of_state next ≡ place_text place ++ (rate_spelled rate ++ terminal ∷ [])
+closes_rate_reads : (rate : Rate) (place : RatePlace) (terminal : Terminal) (next : ParserState) → closes_rate rate place terminal ≡ Some next → text_of_state next ≡ place_text place ++ (rate_spelled rate ++ terminal ∷ [])
 closes_rate_reads rate (OfLine name) (Mark Semicolon) next h = reads (Done (OneLine (RateNamed name rate))) next _ h refl
 closes_rate_reads rate (OfActivity word pending chosen joining outer) (Mark Closing) next h = reads (WantDot word rate pending chosen joining outer) next _ h (simp append_assoc)
 closes_rate_reads rate _ _ next h = cc
 
 -- what closes a sum
-closes_sum_reads : (sum : Sum) (outer : RateOuter) (terminal : Terminal) (next : State) → closes_sum sum outer terminal ≡ Some next → text_of_state next ≡ rate_outer_text outer ++ (sum_spelled sum ++ terminal ∷ [])
+closes_sum_reads : (sum : Sum) (outer : RateOuter) (terminal : Terminal) (next : ParserState) → closes_sum sum outer terminal ≡ Some next → text_of_state next ≡ rate_outer_text outer ++ (sum_spelled sum ++ terminal ∷ [])
 closes_sum_reads sum (Whole place) terminal next h = closes_rate_reads (Computed sum) place terminal next h
 closes_sum_reads sum (InRateBrackets summing multiplying outer) (Mark Closing) next h = reads (AfterFactor (Bracketed sum) summing multiplying outer) next _ h (simp append_assoc)
 closes_sum_reads sum _ _ next h = cc
@@ -202,7 +203,7 @@ behind_sum_text : (factor : Factor) (summing : Option Summing) (multiplying : Op
 behind_sum_text factor summing multiplying outer behind = simp (append_assoc, sum_with_text summing multiplying factor)
 
 -- what stands behind a factor
-after_factor_reads : (factor : Factor) (summing : Option Summing) (multiplying : Option Multiplying) (outer : RateOuter) (terminal : Terminal) (next : State) → after_factor_step factor summing multiplying outer terminal ≡ Some next → text_of_state next ≡ text_of_state (AfterFactor factor summing multiplying outer) ++ terminal ∷ []
+after_factor_reads : (factor : Factor) (summing : Option Summing) (multiplying : Option Multiplying) (outer : RateOuter) (terminal : Terminal) (next : ParserState) → after_factor_step factor summing multiplying outer terminal ≡ Some next → text_of_state next ≡ text_of_state (AfterFactor factor summing multiplying outer) ++ terminal ∷ []
 after_factor_reads factor summing multiplying outer (Mark Star) next h = reads (WantFactor summing (Some (record { product = product_with multiplying factor; sign = Multiplied })) outer) next _ h (simp (append_assoc, product_with_text multiplying factor))
 after_factor_reads factor summing multiplying outer (Mark Slash) next h = reads (WantFactor summing (Some (record { product = product_with multiplying factor; sign = Divided })) outer) next _ h (simp (append_assoc, product_with_text multiplying factor))
 after_factor_reads factor summing multiplying outer (Mark Plus) next h = reads (WantFactor (Some (record { sum = whole_sum summing multiplying factor; sign = Added })) None outer) next _ h (simp (append_assoc, append-nil, sum_with_text summing multiplying factor))
@@ -210,32 +211,32 @@ after_factor_reads factor summing multiplying outer (Mark Minus) next h = reads 
 after_factor_reads factor summing multiplying outer terminal next h = closes_sum_reads (whole_sum summing multiplying factor) outer terminal next h ∙ behind_sum_text factor summing multiplying outer (terminal ∷ [])
 
 -- what closes a set
-closes_set_reads : (place : SetPlace) (words : List Word) (terminal : Terminal) (next : State) → closes_set place words terminal ≡ Some next → text_of_state next ≡ set_place_text place ++ (words_spelled words ++ terminal ∷ [])
+closes_set_reads : (place : SetPlace) (words : List Word) (terminal : Terminal) (next : ParserState) → closes_set place words terminal ≡ Some next → text_of_state next ≡ set_place_text place ++ (words_spelled words ++ terminal ∷ [])
 closes_set_reads (OfCooperation process outer) words (Mark Greater) next h = reads (set_read (OfCooperation process outer) words) next _ h (simp (append_assoc, append-nil))
 closes_set_reads (OfHiding hidden chosen joining outer) words (Mark ClosingBrace) next h = reads (set_read (OfHiding hidden chosen joining outer) words) next _ h (simp append_assoc)
 closes_set_reads _ words _ next h = cc
 
 -- a word behind a comma
-takes_word_reads : (place : SetPlace) (words : List Word) (terminal : Terminal) (next : State) → HasWord words → takes_word place words terminal ≡ Some next → text_of_state next ≡ text_of_state (WantWord place words) ++ terminal ∷ []
+takes_word_reads : (place : SetPlace) (words : List Word) (terminal : Terminal) (next : ParserState) → HasWord words → takes_word place words terminal ≡ Some next → text_of_state next ≡ text_of_state (WantWord place words) ++ terminal ∷ []
 takes_word_reads place words Small next some h = reads (AfterWord place (words ++ Named Plain ∷ [])) next _ h (simp (append_assoc, words_text words (Named Plain) some))
 takes_word_reads place words Probe next some h = reads (AfterWord place (words ++ Named Probing ∷ [])) next _ h (simp (append_assoc, words_text words (Named Probing) some))
 takes_word_reads place words Tau next some h = reads (AfterWord place (words ++ Internal ∷ [])) next _ h (simp (append_assoc, words_text words Internal some))
 takes_word_reads place words _ next some h = cc
 
 -- the first word of a set, or its end
-at_set_reads : (place : SetPlace) (terminal : Terminal) (next : State) → at_set_step place terminal ≡ Some next → text_of_state next ≡ set_place_text place ++ terminal ∷ []
+at_set_reads : (place : SetPlace) (terminal : Terminal) (next : ParserState) → at_set_step place terminal ≡ Some next → text_of_state next ≡ set_place_text place ++ terminal ∷ []
 at_set_reads place Small next h = reads (AfterWord place (Named Plain ∷ [])) next _ h refl
 at_set_reads place Probe next h = reads (AfterWord place (Named Probing ∷ [])) next _ h refl
 at_set_reads place Tau next h = reads (AfterWord place (Internal ∷ [])) next _ h refl
 at_set_reads place terminal next h = closes_set_reads place [] terminal next h
 
 -- a comma, or what closes the set
-after_word_reads : (place : SetPlace) (words : List Word) (terminal : Terminal) (next : State) → after_word_step place words terminal ≡ Some next → text_of_state next ≡ text_of_state (AfterWord place words) ++ terminal ∷ []
+after_word_reads : (place : SetPlace) (words : List Word) (terminal : Terminal) (next : ParserState) → after_word_step place words terminal ≡ Some next → text_of_state next ≡ text_of_state (AfterWord place words) ++ terminal ∷ []
 after_word_reads place words (Mark Comma) next h = reads (WantWord place words) next _ h (simp append_assoc)
 after_word_reads place words terminal next h = closes_set_reads place words terminal next h ∙ simp append_assoc
 
 -- a step adds its terminal to what has been read
-pub step_reads : (state : State) (terminal : Terminal) (next : State) → IsMet state → step state terminal ≡ Some next → text_of_state next ≡ text_of_state state ++ terminal ∷ []
+pub step_reads : (state : ParserState) (terminal : Terminal) (next : ParserState) → IsMet state → step state terminal ≡ Some next → text_of_state next ≡ text_of_state state ++ terminal ∷ []
 unfolding step
 step_reads (Want pending chosen joining outer) terminal next met h = want_reads pending chosen joining outer terminal next h
 step_reads (After hidden chosen joining outer) terminal next met h = after_reads hidden chosen joining outer terminal next h
@@ -255,8 +256,8 @@ step_reads _ _ next met h = cc
 -- ---- runs
 
 -- what has been read is what was read before, and the text
-pub run_adds : (text : List Terminal) (from state : State) → IsMet from → run from text ≡ Some state → text_of_state state ≡ text_of_state from ++ text
-unfolding run
+pub run_adds : (text : List Terminal) (from state : ParserState) → IsMet from → run from text ≡ Some state → text_of_state state ≡ text_of_state from ++ text
+unfolding runs
 run_adds [] from state met h = sym (ap text_of_state (same_Some from state h)) ∙ sym (append-nil (text_of_state from))
 run_adds (terminal ∷ more) from state met h =
     option_and_then_some (λ next. run next more) (step from terminal) state h (λ next made ran.
@@ -265,5 +266,5 @@ run_adds (terminal ∷ more) from state met h =
     ∙ append_assoc (text_of_state from) (terminal ∷ []) more)
 
 -- from the start, what has been read is the text
-pub run_reads : (text : List Terminal) (state : State) → run start text ≡ Some state → text_of_state state ≡ text
+pub run_reads : (text : List Terminal) (state : ParserState) → run start text ≡ Some state → text_of_state state ≡ text
 run_reads text state h = run_adds text start state tt h

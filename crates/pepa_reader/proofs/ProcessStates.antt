@@ -1,11 +1,12 @@
 -- What the machine refuses where a process begins, and behind one.
 use Rattle.std.proofs.Common.{◌≡◌, List, [], ◌∷◌, refl, Option, Some, None}
 use Rattle.pepa_lexer.specs.declared.kinds.Sign.TheVariants.{Equals, Semicolon, Opening, Closing, Comma, Dot, Plus, Slash, Less, Or, OpeningBrace}
-use Rattle.pepa_reader.specs.declared.terminal.Terminal.{Terminal}
-use Rattle.pepa_reader.specs.declared.terminal.Terminal.TheVariants.{Small, Probe, Tau, Capital, Mark, End}
+use Rattle.token_grammar.specs.declared.terminal.Terminal.{Terminal}
+use Rattle.token_grammar.specs.declared.terminal.Terminal.TheVariants.{Small, Probe, Tau, Capital, Mark, End}
 use Rattle.pepa_reader.specs.Grammar.{Plain, Probing, Word, Named, Internal, word_spelled, Rate, Process, OneChoice, Cooperating, OneHidden, Chosen, Hidden, OnePrefix, Constant}
 use Rattle.pepa_reader.specs.Machine.{Pending, ChosenSoFar, Joining, Outer, InLine, InSystem, InBrackets, Want, After, WantComma, WantDot, WantBrace, IsUndone, step, whole_process, starts, names_line, closes, behind_process}
-use Rattle.pepa_reader.specs.Reading.{Begins, Refuses, AdmitsPrefix, EndsProcess}
+use Rattle.token_grammar.specs.Cursors.{Begins}
+use Rattle.pepa_reader.specs.Reading.{CannotGoOn, AdmitsPrefix, EndsProcess}
 
 -- ---- where a process begins
 
@@ -19,7 +20,7 @@ no_start [] None None (InBrackets pending chosen joining outer) Internal more ad
 no_start _ _ _ _ _ more admits = refl
 
 -- where neither a constant nor a bracket stands, no prefix can follow
-pub refuses_prefix : (pending : List Pending) (chosen : ChosenSoFar) (joining : Option Joining) (outer : Outer) (rest : List Terminal) → ¬ Begins rest Capital → ¬ Begins rest (Mark Opening) → AdmitsPrefix pending chosen joining outer rest → Refuses (Want pending chosen joining outer) rest
+pub refuses_prefix : (pending : List Pending) (chosen : ChosenSoFar) (joining : Option Joining) (outer : Outer) (rest : List Terminal) → ¬ Begins rest Capital → ¬ Begins rest (Mark Opening) → AdmitsPrefix pending chosen joining outer rest → CannotGoOn (Want pending chosen joining outer) rest
 unfolding step
 refuses_prefix pending chosen joining outer [] capital opening admits = tt
 refuses_prefix pending chosen joining outer (Capital ∷ more) capital opening admits = absurd (capital refl)
@@ -32,19 +33,19 @@ refuses_prefix pending chosen joining outer (_ ∷ more) capital opening admits 
 -- ---- in a prefix, and before a set
 
 -- each of these waits for one sign, which doesn't stand there
-pub refuses_comma : (word : Word) (pending : List Pending) (chosen : ChosenSoFar) (joining : Option Joining) (outer : Outer) (rest : List Terminal) → ¬ Begins rest (Mark Comma) → Refuses (WantComma word pending chosen joining outer) rest
+pub refuses_comma : (word : Word) (pending : List Pending) (chosen : ChosenSoFar) (joining : Option Joining) (outer : Outer) (rest : List Terminal) → ¬ Begins rest (Mark Comma) → CannotGoOn (WantComma word pending chosen joining outer) rest
 unfolding step
 refuses_comma word pending chosen joining outer [] comma = tt
 refuses_comma word pending chosen joining outer (Mark Comma ∷ more) comma = absurd (comma refl)
 refuses_comma word pending chosen joining outer (_ ∷ more) comma = refl
 
-pub refuses_dot : (word : Word) (rate : Rate) (pending : List Pending) (chosen : ChosenSoFar) (joining : Option Joining) (outer : Outer) (rest : List Terminal) → ¬ Begins rest (Mark Dot) → Refuses (WantDot word rate pending chosen joining outer) rest
+pub refuses_dot : (word : Word) (rate : Rate) (pending : List Pending) (chosen : ChosenSoFar) (joining : Option Joining) (outer : Outer) (rest : List Terminal) → ¬ Begins rest (Mark Dot) → CannotGoOn (WantDot word rate pending chosen joining outer) rest
 unfolding step
 refuses_dot word rate pending chosen joining outer [] dot = tt
 refuses_dot word rate pending chosen joining outer (Mark Dot ∷ more) dot = absurd (dot refl)
 refuses_dot word rate pending chosen joining outer (_ ∷ more) dot = refl
 
-pub refuses_brace : (hidden : Hidden) (chosen : ChosenSoFar) (joining : Option Joining) (outer : Outer) (rest : List Terminal) → ¬ Begins rest (Mark OpeningBrace) → Refuses (WantBrace hidden chosen joining outer) rest
+pub refuses_brace : (hidden : Hidden) (chosen : ChosenSoFar) (joining : Option Joining) (outer : Outer) (rest : List Terminal) → ¬ Begins rest (Mark OpeningBrace) → CannotGoOn (WantBrace hidden chosen joining outer) rest
 unfolding step
 refuses_brace hidden chosen joining outer [] brace = tt
 refuses_brace hidden chosen joining outer (Mark OpeningBrace ∷ more) brace = absurd (brace refl)
@@ -79,7 +80,7 @@ stays_open process (InBrackets pending chosen joining outer) (Mark Closing) more
 stays_open process (InBrackets pending chosen joining outer) _ more stays = refl
 
 -- behind a part of a process stands nothing that goes on with it, nor closes it
-refuses_after : (hidden : Hidden) (chosen : ChosenSoFar) (joining : Option Joining) (outer : Outer) (rest : List Terminal) → EndsProcess rest → StaysOpen (whole_process joining chosen hidden) outer rest → Refuses (After hidden chosen joining outer) rest
+refuses_after : (hidden : Hidden) (chosen : ChosenSoFar) (joining : Option Joining) (outer : Outer) (rest : List Terminal) → EndsProcess rest → StaysOpen (whole_process joining chosen hidden) outer rest → CannotGoOn (After hidden chosen joining outer) rest
 unfolding step
 refuses_after hidden chosen joining outer [] ends stays = tt
 refuses_after hidden chosen joining outer (Mark Slash ∷ more) ends stays = absurd (ends.0.0 refl)
@@ -90,7 +91,7 @@ refuses_after hidden chosen joining outer (Mark Equals ∷ more) ends stays = no
 refuses_after hidden chosen joining outer (terminal ∷ more) ends stays = stays_open (whole_process joining chosen hidden) outer terminal more stays
 
 -- the same behind a whole process
-pub refuses_behind_process : (process : Process) (outer : Outer) (rest : List Terminal) → EndsProcess rest → StaysOpen process outer rest → Refuses (behind_process process outer) rest
+pub refuses_behind_process : (process : Process) (outer : Outer) (rest : List Terminal) → EndsProcess rest → StaysOpen process outer rest → CannotGoOn (behind_process process outer) rest
 refuses_behind_process (OneChoice (OneHidden hidden)) outer rest ends stays = refuses_after hidden None None outer rest ends stays
 refuses_behind_process (OneChoice (Chosen choice hidden)) outer rest ends stays = refuses_after hidden (Some choice) None outer rest ends stays
 refuses_behind_process (Cooperating process coop (OneHidden hidden)) outer rest ends stays = refuses_after hidden None (Some (record { process = process; coop = coop })) outer rest ends stays

@@ -8,9 +8,9 @@ use Rattle.pepa_lexer.specs.Bytes.{is_capital, begins}
 use Rattle.pepa_lexer.specs.TokenLists.{IsTokens, tokens_along, place_of, end_of}
 use Rattle.pepa_lexer.specs.declared.kinds.Kind.TheVariants as kinds
 use Rattle.pepa_lexer.specs.declared.kinds.Token.{Token}
-use Rattle.pepa_reader.specs.declared.terminal.Terminal.{Terminal}
-use Rattle.pepa_reader.specs.declared.terminal.Terminal.TheVariants.{Small, Probe, Tau, Capital, Top, End}
-use Rattle.pepa_reader.specs.Terminals.{terminals, terminal_of, terminal_from, text_of}
+use Rattle.token_grammar.specs.declared.terminal.Terminal.{Terminal}
+use Rattle.token_grammar.specs.declared.terminal.Terminal.TheVariants.{Small, Probe, Tau, Capital, Top, End}
+use Rattle.token_grammar.specs.Terminals.{terminals, terminal_of, terminal_from, text_of}
 use Rattle.pepa_reader.specs.ItemReading.{IsEnded}
 
 -- a word is no end

@@ -1,17 +1,19 @@
 -- What the readers of sets and of cooperations answer.
 use Rattle.std.proofs.Common.{◌≡◌, ◌≢◌, ℕ, ◌+◌, List, [], ◌∷◌, ◌++◌, length, drop, refl, sym, ap, ◌∙◌, append_assoc, append-nil, Some, None, Err, arith}
 use Rattle.pepa_lexer.specs.declared.kinds.Sign.TheVariants.{Comma, Less, Greater, ClosingBrace}
-use Rattle.pepa_reader.specs.declared.terminal.Terminal.{Terminal}
-use Rattle.pepa_reader.specs.declared.terminal.Terminal.TheVariants.{Small, Probe, Tau, Mark}
-use Rattle.pepa_reader.specs.declared.fault.PartFault.{PartFault}
-use Rattle.pepa_reader.specs.declared.fault.PartFault.TheVariants.{Refused, Memory}
+use Rattle.token_grammar.specs.declared.terminal.Terminal.{Terminal}
+use Rattle.token_grammar.specs.declared.terminal.Terminal.TheVariants.{Small, Probe, Tau, Mark}
+use Rattle.fault_ends.specs.declared.end.End.TheVariants.{Fault, Memory}
+use Rattle.token_grammar.proofs.Runs.{halts_here, halts_after, run_step}
+use Rattle.token_grammar.specs.Machines.{runs}
 use Rattle.pepa_reader.specs.declared.words.WordsRead.{WordsRead}
 use Rattle.pepa_reader.specs.Grammar.{Plain, Probing, Word, Named, Internal, word_spelled, words_spelled, Sharing, Process}
 use Rattle.pepa_reader.specs.Trees.{word_indices}
-use Rattle.pepa_reader.specs.Machine.{Outer, SetPlace, OfCooperation, OfHiding, State, AtSet, AfterWord, WantWord, IsUndone, step, run, closes_set, behind_process}
-use Rattle.pepa_reader.specs.Reading.{Begins, NoWord, IsSpelled, IsAt, Expects, Refuses, closing_of, AreWords, ReadsWords, IsCooperation, ReadsCooperation}
-use Rattle.pepa_reader.proofs.Spelled.{spelled_append, spelled_as, stops_here, stops_behind}
-use Rattle.pepa_reader.proofs.MachineRuns.{run_step, less_behind_process}
+use Rattle.pepa_reader.specs.Machine.{Outer, SetPlace, OfCooperation, OfHiding, ParserState, AtSet, AfterWord, WantWord, IsUndone, step, run, closes_set, behind_process}
+use Rattle.token_grammar.specs.Cursors.{Begins, IsSpelledFrom, IsAt, Expects, PartEnd}
+use Rattle.pepa_reader.specs.Reading.{NoWord, CannotGoOn, closing_of, AreWords, ReadsSet, IsCooperation, ReadsCooperation}
+use Rattle.token_grammar.proofs.Spelled.{spelled_append, spelled_as}
+use Rattle.pepa_reader.proofs.MachineRuns.{less_behind_process}
 
 -- ---- words with a comma behind each
 
@@ -40,7 +42,7 @@ last_index at (first ∷ more) word =
 -- ---- what the machine does with them
 
 -- where the next word is wanted
-abbrev pub wants : SetPlace → List Word → State
+abbrev pub wants : SetPlace → List Word → ParserState
 wants place [] = AtSet place
 wants place (word ∷ words) = WantWord place (word ∷ words)
 
@@ -61,17 +63,17 @@ comma_behind place (first ∷ words) word = refl
 
 -- all words that are left, each with its comma
 listed_onward : (place : SetPlace) (read more : List Word) → run (wants place read) (listed more) ≡ Some (wants place (read ++ more))
-unfolding run
+unfolding runs
 listed_onward place read [] = ap (λ l. Some (wants place l)) (sym (append-nil read))
 listed_onward place read (word ∷ more) =
-    run_step (wants place read) (AfterWord place (read ++ word ∷ [])) (word_spelled word) (Mark Comma ∷ listed more) (takes place read word)
-    ∙ run_step (AfterWord place (read ++ word ∷ [])) (wants place (read ++ word ∷ [])) (Mark Comma) (listed more) (comma_behind place read word)
+    run_step step (wants place read) (AfterWord place (read ++ word ∷ [])) (word_spelled word) (Mark Comma ∷ listed more) (takes place read word)
+    ∙ run_step step (AfterWord place (read ++ word ∷ [])) (wants place (read ++ word ∷ [])) (Mark Comma) (listed more) (comma_behind place read word)
     ∙ listed_onward place (read ++ word ∷ []) more
     ∙ ap (λ l. Some (wants place l)) (append_assoc read (word ∷ []) more)
 
 one_more_runs : (place : SetPlace) (words : List Word) (word : Word) → run (wants place words) (word_spelled word ∷ []) ≡ Some (AfterWord place (words ++ word ∷ []))
-unfolding run
-one_more_runs place words word = run_step (wants place words) (AfterWord place (words ++ word ∷ [])) (word_spelled word) [] (takes place words word)
+unfolding runs
+one_more_runs place words word = run_step step (wants place words) (AfterWord place (words ++ word ∷ [])) (word_spelled word) [] (takes place words word)
 
 undone_wants : (place : SetPlace) (words : List Word) → IsUndone (wants place words)
 undone_wants place [] = tt
@@ -91,7 +93,7 @@ set_stays (OfCooperation process outer) words _ other = refl
 set_stays (OfHiding hidden chosen joining outer) words (Mark ClosingBrace) other = absurd (other refl)
 set_stays (OfHiding hidden chosen joining outer) words _ other = refl
 
-pub refuses_at_set : (place : SetPlace) (rest : List Terminal) → NoWord rest → ¬ Begins rest (closing_of place) → Refuses (AtSet place) rest
+pub refuses_at_set : (place : SetPlace) (rest : List Terminal) → NoWord rest → ¬ Begins rest (closing_of place) → CannotGoOn (AtSet place) rest
 unfolding step
 refuses_at_set place [] word close = tt
 refuses_at_set place (Small ∷ more) word close = absurd (word.0 refl)
@@ -99,7 +101,7 @@ refuses_at_set place (Probe ∷ more) word close = absurd (word.1 refl)
 refuses_at_set place (Tau ∷ more) word close = absurd (word.2 refl)
 refuses_at_set place (terminal ∷ more) word close = set_stays place [] terminal close
 
-pub refuses_word : (place : SetPlace) (words : List Word) (rest : List Terminal) → NoWord rest → Refuses (WantWord place words) rest
+pub refuses_word : (place : SetPlace) (words : List Word) (rest : List Terminal) → NoWord rest → CannotGoOn (WantWord place words) rest
 unfolding step
 refuses_word place words [] word = tt
 refuses_word place words (Small ∷ more) word = absurd (word.0 refl)
@@ -107,13 +109,13 @@ refuses_word place words (Probe ∷ more) word = absurd (word.1 refl)
 refuses_word place words (Tau ∷ more) word = absurd (word.2 refl)
 refuses_word place words (_ ∷ more) word = refl
 
-pub refuses_after_word : (place : SetPlace) (words : List Word) (rest : List Terminal) → ¬ Begins rest (Mark Comma) → ¬ Begins rest (closing_of place) → Refuses (AfterWord place words) rest
+pub refuses_after_word : (place : SetPlace) (words : List Word) (rest : List Terminal) → ¬ Begins rest (Mark Comma) → ¬ Begins rest (closing_of place) → CannotGoOn (AfterWord place words) rest
 unfolding step
 refuses_after_word place words [] comma close = tt
 refuses_after_word place words (Mark Comma ∷ more) comma close = absurd (comma refl)
 refuses_after_word place words (terminal ∷ more) comma close = set_stays place words terminal close
 
-refuses_wants : (place : SetPlace) (words : List Word) (close : Terminal) (rest : List Terminal) → closing_of place ≡ close → NoWord rest → StaysUnclosed words close rest → Refuses (wants place words) rest
+refuses_wants : (place : SetPlace) (words : List Word) (close : Terminal) (rest : List Terminal) → closing_of place ≡ close → NoWord rest → StaysUnclosed words close rest → CannotGoOn (wants place words) rest
 refuses_wants place [] close rest same word stays = refuses_at_set place rest word (rw same stays)
 refuses_wants place (first ∷ words) close rest same word stays = refuses_word place (first ∷ words) rest word
 
@@ -122,7 +124,7 @@ refuses_wants place (first ∷ words) close rest same word stays = refuses_word 
 -- the words read so far, each with a comma behind it
 pub record AreListed (kinds : List Terminal) (at : ℕ) (close : Terminal) (set : List ℕ) (next : ℕ) : Type 0 where
   pub words : List Word
-  pub spelled : IsSpelled kinds at next (listed words)
+  pub spelled : IsSpelledFrom kinds at next (listed words)
   pub indices : set ≡ word_indices at words
   pub stays : StaysUnclosed words close (drop next kinds)
 
@@ -152,30 +154,30 @@ are_words kinds at mid behind next close read set word so_far is_word closing is
     }
 
 -- the set stops where no word stands
-pub no_word : (kinds : List Terminal) (at next : ℕ) (close : Terminal) (set : List ℕ) → AreListed kinds at close set next → NoWord (drop next kinds) → ReadsWords kinds at close (Err (Refused next))
+pub no_word : (kinds : List Terminal) (at next : ℕ) (close : Terminal) (set : List ℕ) → AreListed kinds at close set next → NoWord (drop next kinds) → ReadsSet kinds at close (Err (Fault next))
 no_word kinds at next close set so_far none = λ place same.
-    stops_behind (AtSet place) (wants place so_far.words) so_far.spelled (listed_onward place [] so_far.words)
-    (stops_here (undone_wants place so_far.words) (refuses_wants place so_far.words close (drop next kinds) same none so_far.stays))
+    halts_after (AtSet place) (wants place so_far.words) so_far.spelled (listed_onward place [] so_far.words)
+    (halts_here (undone_wants place so_far.words) (refuses_wants place so_far.words close (drop next kinds) same none so_far.stays))
 
 -- the set stops where neither a comma nor the closing sign stands behind a word
-pub no_comma : (kinds : List Terminal) (at mid behind : ℕ) (close : Terminal) (set : List ℕ) (word : Word) (fault : PartFault) → AreListed kinds at close set mid → IsAt kinds mid behind (word_spelled word) → ¬ Begins (drop behind kinds) close → Expects kinds behind (Mark Comma) (Err fault) → ReadsWords kinds at close (Err fault)
-no_comma kinds at mid behind close set word (Refused i) so_far is_word stays e =
+pub no_comma : (kinds : List Terminal) (at mid behind : ℕ) (close : Terminal) (set : List ℕ) (word : Word) (fault : PartEnd) → AreListed kinds at close set mid → IsAt kinds mid behind (word_spelled word) → ¬ Begins (drop behind kinds) close → Expects kinds behind (Mark Comma) (Err fault) → ReadsSet kinds at close (Err fault)
+no_comma kinds at mid behind close set word (Fault i) so_far is_word stays e =
     rw e.0 (λ place same.
-    stops_behind (AtSet place) (wants place so_far.words) so_far.spelled (listed_onward place [] so_far.words)
-    (stops_behind (wants place so_far.words) (AfterWord place (so_far.words ++ word ∷ [])) is_word.spelled (one_more_runs place so_far.words word)
-    (stops_here tt (refuses_after_word place (so_far.words ++ word ∷ []) (drop behind kinds) e.1 (rw same stays)))))
+    halts_after (AtSet place) (wants place so_far.words) so_far.spelled (listed_onward place [] so_far.words)
+    (halts_after (wants place so_far.words) (AfterWord place (so_far.words ++ word ∷ [])) is_word.spelled (one_more_runs place so_far.words word)
+    (halts_here tt (refuses_after_word place (so_far.words ++ word ∷ []) (drop behind kinds) e.1 (rw same stays)))))
 no_comma kinds at mid behind close set word Memory so_far is_word stays e = tt
 
 -- ---- cooperations
 
 less_runs : (process : Process) (outer : Outer) → run (behind_process process outer) (Mark Less ∷ []) ≡ Some (AtSet (OfCooperation process outer))
-unfolding run
-less_runs process outer = run_step (behind_process process outer) (AtSet (OfCooperation process outer)) (Mark Less) [] (less_behind_process process outer)
+unfolding runs
+less_runs process outer = run_step step (behind_process process outer) (AtSet (OfCooperation process outer)) (Mark Less) [] (less_behind_process process outer)
 
 -- what stops in the set of a cooperation stops behind the process
-pub sharing_fails : (kinds : List Terminal) (at inside : ℕ) (fault : PartFault) → IsAt kinds at inside (Mark Less) → ReadsWords kinds inside (Mark Greater) (Err fault) → ReadsCooperation kinds at (Err fault)
-sharing_fails kinds at inside (Refused i) less words = λ process outer.
-    stops_behind (behind_process process outer) (AtSet (OfCooperation process outer)) less.spelled (less_runs process outer) (words (OfCooperation process outer) refl)
+pub sharing_fails : (kinds : List Terminal) (at inside : ℕ) (fault : PartEnd) → IsAt kinds at inside (Mark Less) → ReadsSet kinds inside (Mark Greater) (Err fault) → ReadsCooperation kinds at (Err fault)
+sharing_fails kinds at inside (Fault i) less words = λ process outer.
+    halts_after (behind_process process outer) (AtSet (OfCooperation process outer)) less.spelled (less_runs process outer) (words (OfCooperation process outer) refl)
 sharing_fails kinds at inside Memory less words = tt
 
 pub is_sharing : (kinds : List Terminal) (at inside : ℕ) (read : WordsRead) → IsAt kinds at inside (Mark Less) → AreWords kinds inside (Mark Greater) read → IsCooperation kinds at read

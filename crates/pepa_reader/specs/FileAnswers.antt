@@ -4,12 +4,13 @@ use Rattle.std.specs.List.{AllByRecursion}
 use Rattle.pepa_lexer.specs.declared.kinds.Token.{Token}
 use Rattle.pepa_lexer.specs.declared.kinds.Place.{Place}
 use Rattle.pepa_lexer.specs.declared.kinds.Sign.TheVariants.{Equals, Star, Less, OpeningBracket}
-use Rattle.pepa_reader.specs.declared.terminal.Terminal.{Terminal}
-use Rattle.pepa_reader.specs.declared.terminal.Terminal.TheVariants.{Probe, Mark}
+use Rattle.token_grammar.specs.declared.terminal.Terminal.{Terminal}
+use Rattle.token_grammar.specs.declared.terminal.Terminal.TheVariants.{Probe, Mark}
 use Rattle.pepa_reader.specs.declared.trees.FileTree.{FileTree}
 use Rattle.pepa_reader.specs.declared.fault.FileFault.{FileFault}
 use Rattle.pepa_reader.specs.declared.fault.FileFault.TheVariants.{Expected, TooDeep, Array, Wildcard, Unsupported, Memory}
-use Rattle.pepa_reader.specs.Terminals.{terminals}
+use Rattle.token_grammar.specs.Terminals.{terminals}
+use Rattle.token_grammar.specs.Languages.{StandsAt, CantFollow}
 use Rattle.pepa_reader.specs.Grammar.{File, Line, Item, System, line_spelled, item_spelled, lines_spelled, file_spelled}
 use Rattle.pepa_reader.specs.Trees.{file_tree, file_node_of}
 
@@ -21,23 +22,13 @@ most_tokens = 2048
 abbrev pub IsFile : List Terminal → Type 0
 IsFile terminals = (file : File) × (terminals ≡ file_spelled file)
 
--- they can be continued to a file
-abbrev pub CanGoOn : List Terminal → Type 0
-CanGoOn front = (more : List Terminal) × IsFile (front ++ more)
-
--- the terminal at an index
-abbrev pub StandsAt : List Terminal → ℕ → Terminal → Type 0
-StandsAt terminals i terminal = slice_get terminals i ≡ Some terminal
-
--- the first terminal that can't follow: what stands before it can be continued to a file, and with it nothing can
-pub record CantFollow (terminals : List Terminal) (i : ℕ) : Type 0 where
-  pub within : i < length terminals
-  pub before : CanGoOn (take i terminals)
-  pub behind : ¬ CanGoOn (take (i + 1) terminals)
-
 -- lines that are short enough
 abbrev pub AreShort : List Line → Type 0
 AreShort lines = AllByRecursion (λ line. length (line_spelled line) ≤ most_tokens) lines
+
+-- a file whose items are short enough
+abbrev pub HasShortItems : File → Type 0
+HasShortItems file = AreShort file.lines × (length (item_spelled (System file.system file.ending)) ≤ most_tokens)
 
 -- before the index stand lines that are short enough, and as many terminals of an item that has more than these
 pub record IsInItem (terminals : List Terminal) (i begun : ℕ) : Type 0 where
@@ -60,8 +51,8 @@ IsWildcard terminals i = StandsAt terminals i (Mark Star) × ((before : ℕ) × 
 
 -- the first terminal that can't follow, where it is one of its item's first 2,048; behind an item's first terminal, `probe`,
 -- it makes the item a probe line, which is refused at its `probe`
-pub record IsRefused (terminals : List Terminal) (i : ℕ) : Type 0 where
-  pub first : CantFollow terminals i
+pub record IsRefusedAtToken (terminals : List Terminal) (i : ℕ) : Type 0 where
+  pub first : CantFollow IsFile terminals i
   pub begun : ℕ
   pub in_item : IsInItem terminals i begun
   pub few : begun < most_tokens
@@ -69,21 +60,29 @@ pub record IsRefused (terminals : List Terminal) (i : ℕ) : Type 0 where
 
 -- the fault of a kind at an index
 abbrev pub IsFaultAt : List Terminal → ℕ → FileFault → Type 0
-IsFaultAt terminals i (Expected place) = IsRefused terminals i × (¬ StandsAt terminals i (Mark OpeningBracket)) × (¬ IsWildcard terminals i)
-IsFaultAt terminals i (Array place) = IsRefused terminals i × StandsAt terminals i (Mark OpeningBracket)
-IsFaultAt terminals i (Wildcard place) = IsRefused terminals i × IsWildcard terminals i
+IsFaultAt terminals i (Expected place) = IsRefusedAtToken terminals i × (¬ StandsAt terminals i (Mark OpeningBracket)) × (¬ IsWildcard terminals i)
+IsFaultAt terminals i (Array place) = IsRefusedAtToken terminals i × StandsAt terminals i (Mark OpeningBracket)
+IsFaultAt terminals i (Wildcard place) = IsRefusedAtToken terminals i × IsWildcard terminals i
 IsFaultAt terminals i (TooDeep place) = IsInItem terminals i most_tokens × (i < length terminals)
 IsFaultAt terminals i (Unsupported place) = BeginsProbeLine terminals i
 IsFaultAt terminals i Memory = ⊥
 
+-- a fault stands at this index
+abbrev pub IsFaultIndex : List Terminal → ℕ → Type 0
+IsFaultIndex terminals i = (fault : FileFault) × IsFaultAt terminals i fault
+
+-- the terminals have a fault
+abbrev pub HasFileFault : List Terminal → Type 0
+HasFileFault terminals = (i : ℕ) × IsFaultIndex terminals i
+
 -- the place that a fault tells
-abbrev pub Tells : FileFault → Place → Type 0
-Tells (Expected place) there = place ≡ there
-Tells (Array place) there = place ≡ there
-Tells (Wildcard place) there = place ≡ there
-Tells (TooDeep place) there = place ≡ there
-Tells (Unsupported place) there = place ≡ there
-Tells Memory there = ⊥
+abbrev pub IsPlaceOf : FileFault → Place → Type 0
+IsPlaceOf (Expected place) there = place ≡ there
+IsPlaceOf (Array place) there = place ≡ there
+IsPlaceOf (Wildcard place) there = place ≡ there
+IsPlaceOf (TooDeep place) there = place ≡ there
+IsPlaceOf (Unsupported place) there = place ≡ there
+IsPlaceOf Memory there = ⊥
 
 -- the tokens have this fault, at the place of the token that can't follow
 pub record IsFileFault (input : List ℕ) (tokens : List Token) (fault : FileFault) : Type 0 where
@@ -91,7 +90,7 @@ pub record IsFileFault (input : List ℕ) (tokens : List Token) (fault : FileFau
   pub is_fault : IsFaultAt (terminals input tokens) i fault
   pub token : Token
   pub is_token : slice_get tokens i ≡ Some token
-  pub place : Tells fault token.place
+  pub place : IsPlaceOf fault token.place
 
 -- the tree is that of the file that the tokens are, each of whose items is short enough
 pub record IsFileTree (terminals : List Terminal) (tree : FileTree) : Type 0 where

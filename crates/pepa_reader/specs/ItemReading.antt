@@ -1,38 +1,43 @@
 -- What the readers of items answer, and why a token is refused.
-use Rattle.std.specs.Prelude.{◌≡◌, ◌≢◌, ℕ, ◌+◌, ◌<◌, ◌≤◌, ◌⊎◌, length, List, [], ◌∷◌, ◌++◌, drop, slice_get, Some, Result, Ok, Err}
+use Rattle.std.specs.Prelude.{◌≡◌, ◌≢◌, ℕ, ◌+◌, ◌<◌, ◌≤◌, ◌⊎◌, length, List, [], ◌∷◌, ◌++◌, drop, slice_get, Option, Some, MatchOption, Result, Ok, Err}
 use Rattle.std.specs.List.{AllByRecursion}
 use Rattle.pepa_lexer.specs.declared.kinds.Token.{Token}
 use Rattle.pepa_lexer.specs.declared.kinds.Sign.TheVariants.{Equals, Semicolon, OpeningBracket}
-use Rattle.pepa_reader.specs.declared.terminal.Terminal.{Terminal}
-use Rattle.pepa_reader.specs.declared.terminal.Terminal.TheVariants.{Probe, Capital, Mark, End}
+use Rattle.token_grammar.specs.declared.terminal.Terminal.{Terminal}
+use Rattle.token_grammar.specs.declared.terminal.Terminal.TheVariants.{Probe, Capital, Mark, End}
 use Rattle.pepa_reader.specs.declared.fault.FileFault.{FileFault}
 use Rattle.pepa_reader.specs.declared.fault.FileFault.TheVariants.{Expected, TooDeep, Array, Wildcard, Unsupported}
 use Rattle.pepa_reader.specs.declared.fault.FileFault.TheVariants as faults
-use Rattle.pepa_reader.specs.declared.fault.PartFault.{PartFault}
-use Rattle.pepa_reader.specs.declared.fault.PartFault.TheVariants.{Refused, Memory}
+use Rattle.fault_ends.specs.declared.end.End.TheVariants.{Fault, Memory}
 use Rattle.pepa_reader.specs.declared.items.Item.{Item}
 use Rattle.pepa_reader.specs.declared.items.Item.TheVariants.{Rate, Process, System}
 use Rattle.pepa_reader.specs.declared.items.ItemRead.{ItemRead}
 use Rattle.pepa_reader.specs.Grammar as g
 use Rattle.pepa_reader.specs.Grammar.{ending_spelled, item_spelled}
 use Rattle.pepa_reader.specs.Trees.{rate_node_of, process_node_of, rate_tree, process_tree}
-use Rattle.pepa_reader.specs.FileAnswers.{most_tokens, StandsAt, Tells, IsWildcard}
-use Rattle.pepa_reader.specs.Machine.{State, IsUndone, run, start}
-use Rattle.pepa_reader.specs.Reading.{Begins, IsSpelled, IsAt, Refuses, Stops}
-use Rattle.pepa_reader.specs.Terminals.{terminals}
+use Rattle.pepa_reader.specs.FileAnswers.{most_tokens, IsPlaceOf, IsWildcard}
+use Rattle.token_grammar.specs.Languages.{StandsAt}
+use Rattle.pepa_reader.specs.Machine.{ParserState, IsUndone, run, start}
+use Rattle.token_grammar.specs.Cursors.{Begins, IsSpelledFrom, IsAt, PartEnd}
+use Rattle.pepa_reader.specs.Reading.{CannotGoOn, Stops}
+use Rattle.token_grammar.specs.Terminals.{terminals}
 
 -- a constant and a `=`
 abbrev pub IsLineHead : List Terminal → ℕ → ℕ → Type 0
-IsLineHead kinds at next = IsSpelled kinds at next (Capital ∷ Mark Equals ∷ [])
+IsLineHead kinds at next = IsSpelledFrom kinds at next (Capital ∷ Mark Equals ∷ [])
 
 abbrev pub NoLineHead : List Terminal → Type 0
 NoLineHead (Capital ∷ Mark Equals ∷ more) = ⊥
 NoLineHead _ = Unit {0}
 
+-- the index after a constant and a `=`, if they stand at the index
+abbrev pub FindsLineHead : List Terminal → ℕ → Option ℕ → Type 0
+FindsLineHead kinds at answer = MatchOption answer (NoLineHead (drop at kinds)) (λ next. IsLineHead kinds at next)
+
 -- the end of a system, or neither the end of the text nor a `;`, or a `;` without the end
-abbrev pub ReadsEnding : List Terminal → ℕ → Result ℕ PartFault → Type 0
-ReadsEnding kinds at (Ok next) = (ending : g.Ending) × IsSpelled kinds at next (ending_spelled ending)
-ReadsEnding kinds at (Err (Refused i)) =
+abbrev pub ReadsEnding : List Terminal → ℕ → Result ℕ PartEnd → Type 0
+ReadsEnding kinds at (Ok next) = (ending : g.Ending) × IsSpelledFrom kinds at next (ending_spelled ending)
+ReadsEnding kinds at (Err (Fault i)) =
     ((i ≡ at) × (¬ Begins (drop at kinds) End) × (¬ Begins (drop at kinds) (Mark Semicolon))) ⊎ (IsAt kinds at i (Mark Semicolon) × (¬ Begins (drop i kinds) End))
 ReadsEnding kinds at (Err Memory) = ⊥
 
@@ -45,12 +50,12 @@ IsItem at _ _ = ⊥
 
 pub record IsItemRead (kinds : List Terminal) (at : ℕ) (read : ItemRead) : Type 0 where
   pub item : g.Item
-  pub spelled : IsSpelled kinds at read.next (item_spelled item)
+  pub spelled : IsSpelledFrom kinds at read.next (item_spelled item)
   pub tree : IsItem at read.item item
 
-abbrev pub ReadsItem : List Terminal → ℕ → Result ItemRead PartFault → Type 0
+abbrev pub ReadsItem : List Terminal → ℕ → Result ItemRead PartEnd → Type 0
 ReadsItem kinds at (Ok read) = IsItemRead kinds at read
-ReadsItem kinds at (Err (Refused i)) = Stops kinds at i start
+ReadsItem kinds at (Err (Fault i)) = Stops kinds at i start
 ReadsItem kinds at (Err Memory) = Unit {0}
 
 -- `probe` alone stands before i in its item
@@ -59,7 +64,7 @@ IsProbeLine kinds at i = (i ≡ at + 1) × StandsAt kinds at Probe
 
 -- the token at the index, and its place
 abbrev pub TellsAt : List Token → FileFault → ℕ → Type 0
-TellsAt tokens fault i = (token : Token) × (slice_get tokens i ≡ Some token) × Tells fault token.place
+TellsAt tokens fault i = (token : Token) × (slice_get tokens i ≡ Some token) × IsPlaceOf fault token.place
 
 -- why the token at i was refused, in the item that begins at `at`
 abbrev pub IsCause : List ℕ → List Token → ℕ → ℕ → FileFault → Type 0
@@ -81,12 +86,12 @@ IsEnded kinds = (front : List Terminal) × (kinds ≡ front ++ End ∷ []) × Al
 -- what stands there
 pub record IsItemFault (input : List ℕ) (tokens : List Token) (at : ℕ) (fault : FileFault) : Type 0 where
   pub i : ℕ
-  pub state : State
+  pub state : ParserState
   pub text : List Terminal
-  pub spelled : IsSpelled (terminals input tokens) at i text
+  pub spelled : IsSpelledFrom (terminals input tokens) at i text
   pub ran : run start text ≡ Some state
   pub undone : IsUndone state
-  pub refused : i ≢ at + most_tokens → Refuses state (drop i (terminals input tokens))
+  pub refused : i ≢ at + most_tokens → CannotGoOn state (drop i (terminals input tokens))
   pub within : i < length tokens
   pub few : i ≤ at + most_tokens
   pub cause : IsCause input tokens at i fault

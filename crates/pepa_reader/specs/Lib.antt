@@ -1,4 +1,3 @@
-pub mod Terminals
 pub mod Grammar
 pub mod Trees
 pub mod FileAnswers

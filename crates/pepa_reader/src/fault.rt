@@ -1,3 +1,5 @@
+//! Why tokens are refused as a file.
+
 ghost use Rattle.std.specs.Prelude.{◌≡◌};
 
 use pepa_lexer::Place;
@@ -27,24 +29,5 @@ impl From<AllocError> for FileFault {
 
     fn from(_error: AllocError) -> FileFault {
         FileFault::Memory
-    }
-}
-
-/// Why a part of an item was not read.
-#[derive(Clone, Copy, Debug, PartialEq, Eq)]
-pub(crate) enum PartFault {
-    /// The token at this index can't follow, or there is none.
-    Refused(usize),
-    /// Memory ran out.
-    Memory,
-}
-
-impl From<AllocError> for PartFault {
-    ghost use Rattle.pepa_reader.specs.declared.fault.PartFault.TheVariants.{Memory};
-
-    ghost from_gives = { λ _ fault. fault ≡ Memory };
-
-    fn from(_error: AllocError) -> PartFault {
-        PartFault::Memory
     }
 }

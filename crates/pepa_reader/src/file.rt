@@ -3,16 +3,17 @@
 ghost use Rattle.std.specs.Prelude.{◌≡◌, ◌+◌, ◌<◌, ◌≤◌, length, drop, take};
 ghost use Rattle.pepa_lexer.specs.TokenLists.{IsTokens};
 ghost use Rattle.pepa_reader.specs.FileAnswers.{ReadsFile};
-ghost use Rattle.pepa_reader.specs.Terminals.{terminals};
+ghost use Rattle.token_grammar.specs.Terminals.{terminals};
 ghost use Rattle.pepa_reader.specs.ItemReading.{IsCause, IsEnded, ReadsItemAt};
 
-use crate::fault::{FileFault, PartFault};
-use crate::items::{Item, ItemRead};
-use crate::terminal::{Terminal, Text};
+use crate::fault::FileFault;
+use crate::items::{Item, ItemRead, next_item};
 use crate::trees::FileTree;
+use fault_ends::End;
 use pepa_lexer::{Sign, Token};
 use sqlite_items::Items;
 use std::alloc::Global;
+use token_grammar::{PartEnd, Terminal, Text};
 
 /// How many tokens an item has at most.
 const MOST_TOKENS: usize = 2048;
@@ -52,13 +53,13 @@ fn item_at(alloc: Global, tokens: &[Token], input: &[u8], at: usize) -> Result<I
     let room = (tokens.len() - at).min(MOST_TOKENS);
     let (few, _) = tokens.split_at(at + room);
     let text = Text { tokens: few, input };
-    match text.item(alloc, at) {
+    match next_item(alloc, &text, at) {
         Ok(read) => Ok(read),
-        Err(PartFault::Refused(i)) => {
+        Err(End::Fault(i)) => {
             let whole = Text { tokens, input };
             Err(cause(&whole, at, i))
         }
-        Err(PartFault::Memory) => Err(FileFault::Memory),
+        Err(End::Memory) => Err(FileFault::Memory),
     }
 }
 

@@ -27,13 +27,11 @@ mod items;
 pub mod laws;
 mod processes;
 mod rates;
-mod terminal;
 mod trees;
 mod words;
 
 pub use fault::FileFault;
 pub use file::read_file;
-pub use terminal::Terminal;
 pub use trees::{
     FileTree, Indices, ProcessLine, ProcessLines, ProcessTree, RateLine, RateLines, RateTree,
 };

@@ -1,17 +1,15 @@
 //! Processes: activities, constants, hidings, choices and cooperations.
 
-ghost use Rattle.std.specs.Prelude.{◌≡◌, [], ◌∷◌, IfOk};
-ghost use Rattle.pepa_reader.specs.Grammar.{Word, word_spelled};
-ghost use Rattle.pepa_reader.specs.Trees.{rate_node_of, process_node_of, PrefixAt, ChoiceOf, CoopAt, HideOf};
-ghost use Rattle.pepa_reader.specs.Reading.{kinds_of, IsSpelled, ReadsActivity, ReadsPrefix, ReadsHidden, ReadsChoice, ReadsProcess};
+ghost use Rattle.std.specs.Prelude.{IfOk};
+ghost use Rattle.token_grammar.specs.Cursors.{kinds_of};
+ghost use Rattle.pepa_reader.specs.Reading.{BeginsActivity, IsPerforming, IsHidingOf, IsChoiceRead, IsCooperating, ReadsActivity, ReadsPrefix, ReadsHidden, ReadsChoice, ReadsProcess};
 
-use crate::fault::PartFault;
-use crate::rates::RateRead;
-use crate::terminal::{Terminal, Text};
+use crate::rates::{RateRead, rate};
 use crate::trees::{Indices, ProcessTree, RateTree};
-use crate::words::WordsRead;
+use crate::words::{WordsRead, cooperation, word, words};
 use pepa_lexer::Sign;
 use std::alloc::{AllocError, Global};
+use token_grammar::{PartEnd, Terminal, Text};
 
 /// The rate of an activity, and the index behind its point.
 #[derive(Debug, Drop)]
@@ -27,79 +25,77 @@ pub(crate) struct ProcessRead {
     pub next: usize,
 }
 
-impl Text<'_, '_> {
-    /// The activity whose `(` stands at the index and whose word stands before `comma`, up to its point.
-    fn activity(&self, alloc: Global, at: usize, comma: usize) -> Result<ActivityRead, PartFault>
-        requires { (word : Word) × IsSpelled (kinds_of self.now) at comma (Terminal.Mark Sign.Opening ∷ word_spelled word ∷ []) }
-        ensures { ReadsActivity (kinds_of self.now) at result }
-    {
-        let start = self.expect(comma, Terminal::Mark(Sign::Comma))?;
-        let RateRead { tree: rate, next } = self.rate(alloc, start)?;
-        let dot = self.expect(next, Terminal::Mark(Sign::Closing))?;
-        let next = self.expect(dot, Terminal::Mark(Sign::Dot))?;
-        Ok(ActivityRead { rate, next })
-    }
+/// The activity whose `(` stands at the index and whose word stands before `comma`, up to its point.
+fn activity(alloc: Global, text: &Text, at: usize, comma: usize) -> Result<ActivityRead, PartEnd>
+    requires { BeginsActivity (kinds_of text.now) at comma }
+    ensures { ReadsActivity (kinds_of text.now) at result }
+{
+    let start = text.expect(comma, Terminal::Mark(Sign::Comma))?;
+    let RateRead { tree: rate, next } = rate(alloc, text, start)?;
+    let dot = text.expect(next, Terminal::Mark(Sign::Closing))?;
+    let next = text.expect(dot, Terminal::Mark(Sign::Dot))?;
+    Ok(ActivityRead { rate, next })
+}
 
-    /// An activity and what follows it, a constant, or a process in brackets.
-    #[cycle(process)]
-    fn prefix(&self, alloc: Global, at: usize) -> Result<ProcessRead, PartFault>
-        ensures { ReadsPrefix (kinds_of self.now) at result }
-    {
-        if let Some(next) = self.behind(at, Terminal::Capital) {
-            let tree = ProcessTree::Constant(at);
-            return Ok(ProcessRead { tree, next });
-        }
-        let inside = self.expect(at, Terminal::Mark(Sign::Opening))?;
-        if let Some(comma) = self.word(inside) {
-            let activity = self.activity(alloc, at, comma)?;
-            let rest = self.prefix(alloc, activity.next)?;
-            let read = performing(alloc, at, activity.rate, rest)?;
-            return Ok(read);
-        }
-        let ProcessRead { tree, next } = self.process(alloc, inside)?;
-        let next = self.expect(next, Terminal::Mark(Sign::Closing))?;
-        Ok(ProcessRead { tree, next })
+/// An activity and what follows it, a constant, or a process in brackets.
+#[cycle(process)]
+fn prefix(alloc: Global, text: &Text, at: usize) -> Result<ProcessRead, PartEnd>
+    ensures { ReadsPrefix (kinds_of text.now) at result }
+{
+    if let Some(next) = text.after(at, Terminal::Capital) {
+        let tree = ProcessTree::Constant(at);
+        return Ok(ProcessRead { tree, next });
     }
+    let inside = text.expect(at, Terminal::Mark(Sign::Opening))?;
+    if let Some(comma) = word(text, inside) {
+        let activity = activity(alloc, text, at, comma)?;
+        let rest = prefix(alloc, text, activity.next)?;
+        let read = performing(alloc, at, activity.rate, rest)?;
+        return Ok(read);
+    }
+    let ProcessRead { tree, next } = process(alloc, text, inside)?;
+    let next = text.expect(next, Terminal::Mark(Sign::Closing))?;
+    Ok(ProcessRead { tree, next })
+}
 
-    /// A prefix with hidings behind it.
-    #[cycle(process)]
-    fn hidden(&self, alloc: Global, at: usize) -> Result<ProcessRead, PartFault>
-        ensures { ReadsHidden (kinds_of self.now) at result }
-    {
-        let mut read = self.prefix(alloc, at)?;
-        while let Some(brace) = self.behind(read.next, Terminal::Mark(Sign::Slash)) {
-            let inside = self.expect(brace, Terminal::Mark(Sign::OpeningBrace))?;
-            let words = self.words(alloc, inside, Terminal::Mark(Sign::ClosingBrace))?;
-            read = hiding(alloc, read, words)?;
-        }
-        Ok(read)
+/// A prefix with hidings behind it.
+#[cycle(process)]
+fn hidden(alloc: Global, text: &Text, at: usize) -> Result<ProcessRead, PartEnd>
+    ensures { ReadsHidden (kinds_of text.now) at result }
+{
+    let mut read = prefix(alloc, text, at)?;
+    while let Some(brace) = text.after(read.next, Terminal::Mark(Sign::Slash)) {
+        let inside = text.expect(brace, Terminal::Mark(Sign::OpeningBrace))?;
+        let words = words(alloc, text, inside, Terminal::Mark(Sign::ClosingBrace))?;
+        read = hiding(alloc, read, words)?;
     }
+    Ok(read)
+}
 
-    /// Components with `+` between them, left first.
-    #[cycle(process)]
-    fn choice(&self, alloc: Global, at: usize) -> Result<ProcessRead, PartFault>
-        ensures { ReadsChoice (kinds_of self.now) at result }
-    {
-        let mut read = self.hidden(alloc, at)?;
-        while let Some(behind) = self.behind(read.next, Terminal::Mark(Sign::Plus)) {
-            let right = self.hidden(alloc, behind)?;
-            read = chosen(alloc, read, right)?;
-        }
-        Ok(read)
+/// Components with `+` between them, left first.
+#[cycle(process)]
+fn choice(alloc: Global, text: &Text, at: usize) -> Result<ProcessRead, PartEnd>
+    ensures { ReadsChoice (kinds_of text.now) at result }
+{
+    let mut read = hidden(alloc, text, at)?;
+    while let Some(behind) = text.after(read.next, Terminal::Mark(Sign::Plus)) {
+        let right = hidden(alloc, text, behind)?;
+        read = chosen(alloc, read, right)?;
     }
+    Ok(read)
+}
 
-    /// Choices with cooperations between them, left first.
-    #[cycle(process)]
-    pub(crate) fn process(&self, alloc: Global, at: usize) -> Result<ProcessRead, PartFault>
-        ensures { ReadsProcess (kinds_of self.now) at result }
-    {
-        let mut read = self.choice(alloc, at)?;
-        while let Some(words) = self.cooperation(alloc, read.next)? {
-            let right = self.choice(alloc, words.next)?;
-            read = cooperating(alloc, read, words.set, right)?;
-        }
-        Ok(read)
+/// Choices with cooperations between them, left first.
+#[cycle(process)]
+pub(crate) fn process(alloc: Global, text: &Text, at: usize) -> Result<ProcessRead, PartEnd>
+    ensures { ReadsProcess (kinds_of text.now) at result }
+{
+    let mut read = choice(alloc, text, at)?;
+    while let Some(words) = cooperation(alloc, text, read.next)? {
+        let right = choice(alloc, text, words.next)?;
+        read = cooperating(alloc, read, words.set, right)?;
     }
+    Ok(read)
 }
 
 /// An activity, whose `(` stands at the index, and what follows it.
@@ -109,7 +105,7 @@ fn performing(
     rate: RateTree,
     rest: ProcessRead,
 ) -> Result<ProcessRead, AllocError>
-    ensures { IfOk result (λ read. (process_node_of read.tree ≡ PrefixAt at (rate_node_of rate) (process_node_of rest.tree)) × (read.next ≡ rest.next)) }
+    ensures { IfOk result (λ read. IsPerforming at rate rest read) }
 {
     let tree = ProcessTree::Prefix {
         at,
@@ -122,7 +118,7 @@ fn performing(
 
 /// A process with the words of a hiding behind it.
 fn hiding(alloc: Global, inner: ProcessRead, words: WordsRead) -> Result<ProcessRead, AllocError>
-    ensures { IfOk result (λ read. (process_node_of read.tree ≡ HideOf (process_node_of inner.tree) words.set) × (read.next ≡ words.next)) }
+    ensures { IfOk result (λ read. IsHidingOf inner words read) }
 {
     let tree = ProcessTree::Hide {
         inner: Box::new(alloc, inner.tree)?,
@@ -134,7 +130,7 @@ fn hiding(alloc: Global, inner: ProcessRead, words: WordsRead) -> Result<Process
 
 /// The choice between two processes.
 fn chosen(alloc: Global, left: ProcessRead, right: ProcessRead) -> Result<ProcessRead, AllocError>
-    ensures { IfOk result (λ read. (process_node_of read.tree ≡ ChoiceOf (process_node_of left.tree) (process_node_of right.tree)) × (read.next ≡ right.next)) }
+    ensures { IfOk result (λ read. IsChoiceRead left right read) }
 {
     let tree = ProcessTree::Choice(Box::new(alloc, left.tree)?, Box::new(alloc, right.tree)?);
     let next = right.next;
@@ -148,7 +144,7 @@ fn cooperating(
     set: Indices,
     right: ProcessRead,
 ) -> Result<ProcessRead, AllocError>
-    ensures { IfOk result (λ read. (process_node_of read.tree ≡ CoopAt left.next (process_node_of left.tree) (process_node_of right.tree) set) × (read.next ≡ right.next)) }
+    ensures { IfOk result (λ read. IsCooperating left set right read) }
 {
     let tree = ProcessTree::Coop {
         at: left.next,

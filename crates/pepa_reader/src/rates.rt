@@ -1,15 +1,15 @@
 //! Rates: sums and products of numbers and names, and passive rates.
 
-ghost use Rattle.std.specs.Prelude.{◌≡◌, ◌+◌, drop, IfOk, MatchOption};
-ghost use Rattle.pepa_reader.specs.Grammar.{SumSign, ProductSign, sum_sign_spelled, product_sign_spelled, rate_spelled, Weighted};
-ghost use Rattle.pepa_reader.specs.Trees.{rate_node_of, OpAt, BracketOf};
-ghost use Rattle.pepa_reader.specs.Reading.{kinds_of, Begins, IsAt, IsSpelled, EndsProduct, BeginsWeighted, ReadsFactor, ReadsProduct, ReadsSum, ReadsRate};
+ghost use Rattle.std.specs.Prelude.{◌≡◌, IfOk};
+ghost use Rattle.pepa_reader.specs.Trees.{rate_node_of, BracketOf};
+ghost use Rattle.token_grammar.specs.Cursors.{kinds_of};
+ghost use Rattle.pepa_reader.specs.Reading.{FindsSumSign, FindsProductSign, FindsWeighted, IsOperation, ReadsFactor, ReadsProduct, ReadsSum, ReadsRate};
 
-use crate::fault::PartFault;
-use crate::terminal::{Terminal, Text};
 use crate::trees::RateTree;
+use crate::words::small;
 use pepa_lexer::Sign;
 use std::alloc::{AllocError, Global};
+use token_grammar::{PartEnd, Terminal, Text};
 
 /// A rate, and the index behind it.
 #[derive(Debug, Drop)]
@@ -18,99 +18,97 @@ pub(crate) struct RateRead {
     pub next: usize,
 }
 
-impl Text<'_, '_> {
-    /// The index behind the `+` or `-` at the index, if there is one.
-    fn sum_sign(&self, at: usize) -> Option<usize>
-        ensures { MatchOption result ((¬ Begins (drop at (kinds_of self.now)) (Terminal.Mark Sign.Plus)) × (¬ Begins (drop at (kinds_of self.now)) (Terminal.Mark Sign.Minus))) (λ next. (sign : SumSign) × IsAt (kinds_of self.now) at next (sum_sign_spelled sign)) }
-    {
-        if let Some(next) = self.behind(at, Terminal::Mark(Sign::Plus)) {
-            return Some(next);
-        }
-        self.behind(at, Terminal::Mark(Sign::Minus))
+/// The index behind the `+` or `-` at the index, if there is one.
+fn sum_sign(text: &Text, at: usize) -> Option<usize>
+    ensures { FindsSumSign (kinds_of text.now) at result }
+{
+    if let Some(next) = text.after(at, Terminal::Mark(Sign::Plus)) {
+        return Some(next);
     }
+    text.after(at, Terminal::Mark(Sign::Minus))
+}
 
-    /// The index behind the `*` or `/` at the index, if there is one.
-    fn product_sign(&self, at: usize) -> Option<usize>
-        ensures { MatchOption result (EndsProduct (drop at (kinds_of self.now))) (λ next. (sign : ProductSign) × IsAt (kinds_of self.now) at next (product_sign_spelled sign)) }
-    {
-        if let Some(next) = self.behind(at, Terminal::Mark(Sign::Star)) {
-            return Some(next);
-        }
-        self.behind(at, Terminal::Mark(Sign::Slash))
+/// The index behind the `*` or `/` at the index, if there is one.
+fn product_sign(text: &Text, at: usize) -> Option<usize>
+    ensures { FindsProductSign (kinds_of text.now) at result }
+{
+    if let Some(next) = text.after(at, Terminal::Mark(Sign::Star)) {
+        return Some(next);
     }
+    text.after(at, Terminal::Mark(Sign::Slash))
+}
 
-    /// A number, a name, or a sum in brackets.
-    #[cycle(rate)]
-    fn factor(&self, alloc: Global, at: usize) -> Result<RateRead, PartFault>
-        ensures { ReadsFactor (kinds_of self.now) at result }
-    {
-        if let Some(next) = self.behind(at, Terminal::Number) {
-            let tree = RateTree::Number(at);
-            return Ok(RateRead { tree, next });
-        }
-        if let Some(next) = self.small(at) {
-            let tree = RateTree::Name(at);
-            return Ok(RateRead { tree, next });
-        }
-        let inside = self.expect(at, Terminal::Mark(Sign::Opening))?;
-        let inner = self.sum(alloc, inside)?;
-        let next = self.expect(inner.next, Terminal::Mark(Sign::Closing))?;
-        let tree = bracketed(alloc, inner.tree)?;
-        Ok(RateRead { tree, next })
+/// A number, a name, or a sum in brackets.
+#[cycle(rate)]
+fn factor(alloc: Global, text: &Text, at: usize) -> Result<RateRead, PartEnd>
+    ensures { ReadsFactor (kinds_of text.now) at result }
+{
+    if let Some(next) = text.after(at, Terminal::Number) {
+        let tree = RateTree::Number(at);
+        return Ok(RateRead { tree, next });
     }
+    if let Some(next) = small(text, at) {
+        let tree = RateTree::Name(at);
+        return Ok(RateRead { tree, next });
+    }
+    let inside = text.expect(at, Terminal::Mark(Sign::Opening))?;
+    let inner = sum(alloc, text, inside)?;
+    let next = text.expect(inner.next, Terminal::Mark(Sign::Closing))?;
+    let tree = bracketed(alloc, inner.tree)?;
+    Ok(RateRead { tree, next })
+}
 
-    /// Factors with `*` and `/` between them, left first.
-    #[cycle(rate)]
-    fn product(&self, alloc: Global, at: usize) -> Result<RateRead, PartFault>
-        ensures { ReadsProduct (kinds_of self.now) at result }
-    {
-        let mut read = self.factor(alloc, at)?;
-        while let Some(behind) = self.product_sign(read.next) {
-            let right = self.factor(alloc, behind)?;
-            read = joined(alloc, read, right)?;
-        }
-        Ok(read)
+/// Factors with `*` and `/` between them, left first.
+#[cycle(rate)]
+fn product(alloc: Global, text: &Text, at: usize) -> Result<RateRead, PartEnd>
+    ensures { ReadsProduct (kinds_of text.now) at result }
+{
+    let mut read = factor(alloc, text, at)?;
+    while let Some(behind) = product_sign(text, read.next) {
+        let right = factor(alloc, text, behind)?;
+        read = joined(alloc, read, right)?;
     }
+    Ok(read)
+}
 
-    /// Products with `+` and `-` between them, left first.
-    #[cycle(rate)]
-    fn sum(&self, alloc: Global, at: usize) -> Result<RateRead, PartFault>
-        ensures { ReadsSum (kinds_of self.now) at result }
-    {
-        let mut read = self.product(alloc, at)?;
-        while let Some(behind) = self.sum_sign(read.next) {
-            let right = self.product(alloc, behind)?;
-            read = joined(alloc, read, right)?;
-        }
-        Ok(read)
+/// Products with `+` and `-` between them, left first.
+#[cycle(rate)]
+fn sum(alloc: Global, text: &Text, at: usize) -> Result<RateRead, PartEnd>
+    ensures { ReadsSum (kinds_of text.now) at result }
+{
+    let mut read = product(alloc, text, at)?;
+    while let Some(behind) = sum_sign(text, read.next) {
+        let right = product(alloc, text, behind)?;
+        read = joined(alloc, read, right)?;
     }
+    Ok(read)
+}
 
-    /// A passive rate with a weight, if one stands at the index: the index behind it.
-    fn weighted(&self, at: usize) -> Option<usize>
-        ensures { MatchOption result (¬ BeginsWeighted (drop at (kinds_of self.now))) (λ next. IsSpelled (kinds_of self.now) at next (rate_spelled Weighted) × (next ≡ at + 3)) }
-    {
-        let star = self.behind(at, Terminal::Number)?;
-        let top = self.behind(star, Terminal::Mark(Sign::Star))?;
-        self.behind(top, Terminal::Top)
-    }
+/// A passive rate with a weight, if one stands at the index: the index behind it.
+fn weighted(text: &Text, at: usize) -> Option<usize>
+    ensures { FindsWeighted (kinds_of text.now) at result }
+{
+    let star = text.after(at, Terminal::Number)?;
+    let top = text.after(star, Terminal::Mark(Sign::Star))?;
+    text.after(top, Terminal::Top)
+}
 
-    /// A whole rate.
-    pub(crate) fn rate(&self, alloc: Global, at: usize) -> Result<RateRead, PartFault>
-        ensures { ReadsRate (kinds_of self.now) at result }
-    {
-        if let Some(next) = self.behind(at, Terminal::Top) {
-            let tree = RateTree::Top { weight: None, at };
-            return Ok(RateRead { tree, next });
-        }
-        if let Some(next) = self.weighted(at) {
-            let tree = RateTree::Top {
-                weight: Some(at),
-                at: at + 2,
-            };
-            return Ok(RateRead { tree, next });
-        }
-        self.sum(alloc, at)
+/// A whole rate.
+pub(crate) fn rate(alloc: Global, text: &Text, at: usize) -> Result<RateRead, PartEnd>
+    ensures { ReadsRate (kinds_of text.now) at result }
+{
+    if let Some(next) = text.after(at, Terminal::Top) {
+        let tree = RateTree::Top { weight: None, at };
+        return Ok(RateRead { tree, next });
     }
+    if let Some(next) = weighted(text, at) {
+        let tree = RateTree::Top {
+            weight: Some(at),
+            at: at + 2,
+        };
+        return Ok(RateRead { tree, next });
+    }
+    sum(alloc, text, at)
 }
 
 /// A rate in brackets.
@@ -122,7 +120,7 @@ fn bracketed(alloc: Global, inner: RateTree) -> Result<RateTree, AllocError>
 
 /// Two rates and the operator between them, which stands at once behind the left one.
 fn joined(alloc: Global, left: RateRead, right: RateRead) -> Result<RateRead, AllocError>
-    ensures { IfOk result (λ read. (rate_node_of read.tree ≡ OpAt left.next (rate_node_of left.tree) (rate_node_of right.tree)) × (read.next ≡ right.next)) }
+    ensures { IfOk result (λ read. IsOperation left right read) }
 {
     let tree = RateTree::Op {
         at: left.next,

@@ -1,3 +1,5 @@
+//! Trees of files, rates and processes, whose nodes hold indices of tokens.
+
 use sqlite_items::Items;
 
 /// A rate, as it is written.

@@ -4,8 +4,8 @@ use Rattle.std.specs.List.{Contains}
 use Rattle.std.specs.List.Sorted.{IsStrictlyIncreasing}
 use Rattle.std.proofs.lemmas.Bool.Decides.{nat_tests}
 use Rattle.std.proofs.lemmas.List.Kept.{AllPairs-from_increasing}
-use Rattle.pepa_resolver.specs.Named.{with_number, set_of}
-use Rattle.pepa_resolver.proofs.Findings.{no_element, contains_here, contains_there, contains_cases}
+use Rattle.pepa_resolver.specs.Named.{with_number, ascending_set}
+use Rattle.node_orders.proofs.Elements.{no_element, contains_here, contains_there, contains_cases}
 
 abbrev pub Ascends : List ℕ → Type 0
 Ascends [] = Unit {0}
@@ -112,27 +112,27 @@ put_ascends n (m ∷ ms) up = by (nat_lt n m) (nat_eq n m) refl refl (put_ascend
 
 -- ---- the set of some numbers
 
-pub set_ascends : (xs : List ℕ) → Ascends (set_of xs)
+pub set_ascends : (xs : List ℕ) → Ascends (ascending_set xs)
 set_ascends [] = tt
-set_ascends (x ∷ xs) = put_ascends x (set_of xs) (set_ascends xs)
+set_ascends (x ∷ xs) = put_ascends x (ascending_set xs) (set_ascends xs)
 
-pub set_has : (xs : List ℕ) (n : ℕ) → Contains xs n → Contains (set_of xs) n
+pub set_has : (xs : List ℕ) (n : ℕ) → Contains xs n → Contains (ascending_set xs) n
 set_has [] n h = absurd (no_element n h)
 set_has (x ∷ xs) n h =
     elim (contains_cases x xs n h) [
-      | inl e ↦ subst (λ (y : ℕ). Contains (with_number x (set_of xs)) y) e (put_there x (set_of xs))
-      | inr k ↦ kept_there x (set_of xs) n (set_has xs n k)
+      | inl e ↦ subst (λ (y : ℕ). Contains (with_number x (ascending_set xs)) y) e (put_there x (ascending_set xs))
+      | inr k ↦ kept_there x (ascending_set xs) n (set_has xs n k)
     ]
 
-pub set_no_more : (xs : List ℕ) (n : ℕ) → Contains (set_of xs) n → Contains xs n
+pub set_no_more : (xs : List ℕ) (n : ℕ) → Contains (ascending_set xs) n → Contains xs n
 set_no_more [] n h = absurd (no_element n h)
 set_no_more (x ∷ xs) n h =
-    elim (none_new x (set_of xs) n h) [
+    elim (none_new x (ascending_set xs) n h) [
       | inl e ↦ subst (λ (y : ℕ). Contains (x ∷ xs) y) e (contains_here x xs)
       | inr k ↦ contains_there x xs n (set_no_more xs n k)
     ]
 
-pub is_set_of : (xs ys : List ℕ) → IsStrictlyIncreasing ys → ((n : ℕ) → Contains xs n → Contains ys n) → ((n : ℕ) → Contains ys n → Contains xs n) → ys ≡ set_of xs
+pub is_set_of : (xs ys : List ℕ) → IsStrictlyIncreasing ys → ((n : ℕ) → Contains xs n → Contains ys n) → ((n : ℕ) → Contains ys n → Contains xs n) → ys ≡ ascending_set xs
 is_set_of xs ys up there back =
-    same_ascending ys (set_of xs) (ascends_from ys up) (set_ascends xs)
+    same_ascending ys (ascending_set xs) (ascends_from ys up) (set_ascends xs)
     (λ n h. set_has xs n (back n h)) (λ n h. there n (set_no_more xs n h))

@@ -8,17 +8,18 @@ use Rattle.pepa_reader.specs.declared.trees.ProcessLine.{ProcessLine}
 use Rattle.pepa_reader.specs.Trees.{RateLineNode, ProcessLineNode, ProcessNode, FileNode, rate_line_of, process_line_of, process_node_of}
 use Rattle.pepa_resolver.specs.Parts.{names_in, set_words_in, rate_ats, process_ats, processes_of}
 use Rattle.pepa_resolver.specs.Faults.{IsKnown, IsEarlyName, UnknownAt, TauAt}
-use Rattle.pepa_resolver.specs.Finding.{Finds, FindsIn, least_of, IsUnlisted, IsUnlistedIn, StandsInSome}
-use Rattle.pepa_resolver.proofs.Findings.{finds_same, finds_either, no_element, one_element, contains_one}
+use Rattle.pepa_resolver.specs.Finding.{FindsLeast, FindsIn, lesser_index, IsUnlisted, IsUnlistedIn, StandsInSome}
+use Rattle.pepa_resolver.proofs.Findings.{finds_same, finds_either}
+use Rattle.node_orders.proofs.Elements.{no_element, one_element, contains_one}
 use Rattle.pepa_resolver.proofs.Repeated.{push_split, known_listed, listed_known}
 
 -- ---- processes
 
 module _ (Stands : ProcessNode → ℕ → Type 0) where
-  pub some_none : Finds (StandsInSome Stands []) None
+  pub some_none : FindsLeast (StandsInSome Stands []) None
   some_none i h = no_element h.0 h.1
 
-  pub some_more : (processes : List ProcessNode) (process : ProcessNode) (found here next : Option ℕ) → Finds (StandsInSome Stands processes) found → Finds (Stands process) here → next ≡ least_of found here → Finds (StandsInSome Stands (processes ++ process ∷ [])) next
+  pub some_more : (processes : List ProcessNode) (process : ProcessNode) (found here next : Option ℕ) → FindsLeast (StandsInSome Stands processes) found → FindsLeast (Stands process) here → next ≡ lesser_index found here → FindsLeast (StandsInSome Stands (processes ++ process ∷ [])) next
   some_more processes process found here next ff fh same =
       finds_either (StandsInSome Stands processes) (Stands process) (StandsInSome Stands (processes ++ process ∷ [])) found here next
       (λ i h. (h.0, Contains-append_left processes (process ∷ []) h.0 h.1, h.2))
@@ -52,14 +53,14 @@ module _ (name : ℕ → List ℕ) where
       ap (take i) are ∙ take-map name i (rate_ats (map rate_line_of lines))
       ∙ ap (map name) (take-map (λ (l : RateLineNode). l.line_at) i (map rate_line_of lines) ∙ ap rate_ats (take-map rate_line_of i lines))
 
-  pub early_none : Finds (IsEarlyName name []) None
+  pub early_none : FindsLeast (IsEarlyName name []) None
   early_none i h = no_line h.above h.line h.below h.whole
     where
       no_line : (above : List RateLineNode) (line : RateLineNode) (below : List RateLineNode) → [] ≡ above ++ line ∷ below → ⊥
       no_line [] line below h = cc
       no_line (x ∷ above) line below h = cc
 
-  pub early_more : (lines : List RateLineNode) (line : RateLineNode) (listed : List (List ℕ)) (found here next : Option ℕ) → listed ≡ map name (rate_ats lines) → Finds (IsEarlyName name lines) found → FindsIn (IsUnlisted name listed) (names_in line.rate) here → next ≡ least_of found here → Finds (IsEarlyName name (lines ++ line ∷ [])) next
+  pub early_more : (lines : List RateLineNode) (line : RateLineNode) (listed : List (List ℕ)) (found here next : Option ℕ) → listed ≡ map name (rate_ats lines) → FindsLeast (IsEarlyName name lines) found → FindsIn (IsUnlisted name listed) (names_in line.rate) here → next ≡ lesser_index found here → FindsLeast (IsEarlyName name (lines ++ line ∷ [])) next
   early_more lines line listed found here next are ff fh same =
       finds_either (IsEarlyName name lines) (λ i. Contains (names_in line.rate) i × IsUnlisted name listed i) (IsEarlyName name (lines ++ line ∷ [])) found here next
       (λ i h. record {
@@ -89,7 +90,7 @@ module _ (name : ℕ → List ℕ) where
 
   -- ---- the whole file
 
-  pub unknown_in_file : (file : FileNode) (constants rates : List (List ℕ)) (early here found : Option ℕ) → constants ≡ map name (process_ats file.processes) → rates ≡ map name (rate_ats file.rates) → Finds (IsEarlyName name file.rates) early → Finds (StandsInSome (IsUnlistedIn name constants rates) (processes_of file)) here → found ≡ least_of early here → Finds (UnknownAt name file) found
+  pub unknown_in_file : (file : FileNode) (constants rates : List (List ℕ)) (early here found : Option ℕ) → constants ≡ map name (process_ats file.processes) → rates ≡ map name (rate_ats file.rates) → FindsLeast (IsEarlyName name file.rates) early → FindsLeast (StandsInSome (IsUnlistedIn name constants rates) (processes_of file)) here → found ≡ lesser_index early here → FindsLeast (UnknownAt name file) found
   unknown_in_file file constants rates early here found constants_are rates_are fe fh same =
       finds_either (IsEarlyName name file.rates) (StandsInSome (IsUnlistedIn name constants rates) (processes_of file)) (UnknownAt name file) early here found
       (λ i h. inl h)
@@ -114,7 +115,7 @@ module _ (name : ℕ → List ℕ) where
       ])
       fe fh same
 
-pub tau_in_file : (IsTau : ℕ → Type 0) (file : FileNode) (found : Option ℕ) → Finds (StandsInSome (λ process i. Contains (set_words_in process) i × IsTau i) (processes_of file)) found → Finds (TauAt IsTau file) found
+pub tau_in_file : (IsTau : ℕ → Type 0) (file : FileNode) (found : Option ℕ) → FindsLeast (StandsInSome (λ process i. Contains (set_words_in process) i × IsTau i) (processes_of file)) found → FindsLeast (TauAt IsTau file) found
 tau_in_file IsTau file found h =
     finds_same (StandsInSome (λ process i. Contains (set_words_in process) i × IsTau i) (processes_of file)) (TauAt IsTau file) found
     (λ i s. ((s.0, s.1, s.2.0), s.2.1)) (λ i s. (s.0.0, s.0.1, (s.0.2, s.1))) h

@@ -1,24 +1,19 @@
 -- Where no rate is refused and each name is known, each rate line has a value.
 use Rattle.std.proofs.Common.{◌≡◌, ℕ, zero, suc, ◌+◌, ◌<◌, ◌≤◌, Bool, true, false, List, [], ◌∷◌, ◌++◌, map, length, get_or, take, slice_get, nat_eq, if◌then◌else◌, Some, None, ◌⊎◌, inl, inr, refl, sym, ap, ◌∙◌, arith}
-use Rattle.std.specs.Prelude.{Result, Err}
-use Rattle.std.specs.Option.{option_map}
 use Rattle.std.specs.List.{Contains}
 use Rattle.std.specs.Cmp.Lexicographic.{pointwise, bytes_decides}
 use Rattle.std.proofs.lemmas.List.{length-take-le}
 use Rattle.std.proofs.lemmas.List.Elements.{Contains-append_left, Contains-append_right}
 use Rattle.std.proofs.lemmas.Map.Made.{Contains-tail}
-use Rattle.std.proofs.lemmas.Option.{slice_get_within, same_Some, slice_get_read, slice_get-map}
+use Rattle.std.proofs.lemmas.Option.{slice_get_within, same_Some}
 use Rattle.pepa_rates.specs.Fraction.{Fraction}
 use Rattle.pepa_rates.specs.declared.rate.Rate.{Rate}
 use Rattle.pepa_rates.specs.declared.rate.Rate.TheVariants.{Active, Passive}
 use Rattle.pepa_lexer.specs.declared.kinds.Token.{Token}
 use Rattle.pepa_reader.specs.Trees.{RateNode, NumberAt, NameAt, TopAt, OpAt, BracketOf, RateLineNode}
-use Rattle.pepa_resolver.specs.declared.values.Unvalued.{Unvalued}
-use Rattle.pepa_resolver.specs.declared.values.Unvalued.TheVariants as unvalued
 use Rattle.pepa_resolver.specs.Parts.{names_in, rate_ats}
 use Rattle.pepa_resolver.specs.Faults.{IsKnown, IsEarlyName}
-use Rattle.pepa_resolver.specs.Outcomes.{Outcome, Good, NoValue, BadAt, is_fine, inner_name, combined, sum_outcome, active_outcome, rate_outcome, value_of, looked_up, AreOutcomes, number_value, op_value}
-use Rattle.pepa_resolver.specs.Values.{outcome_of}
+use Rattle.pepa_resolver.specs.Outcomes.{Outcome, Good, NoValue, BadAt, is_fine, inner_name, combined_outcome, sum_outcome, active_outcome, rate_outcome, value_of, looked_up, AreOutcomes, number_value, op_value}
 use Rattle.pepa_resolver.specs.CheckedRates.{AreGood}
 use Rattle.pepa_resolver.specs.FirstBad.{BadLine}
 
@@ -32,7 +27,7 @@ named_judged : (at : ℕ) (outcome : Outcome Rate) (rate : Rate) → outcome ≡
 named_judged at outcome (Active q) good e = let k = ap (inner_name at) good in cc
 named_judged at outcome (Passive q) good e = let k = ap (inner_name at) good in cc
 
-combined_judged : (tokens : List Token) (at : ℕ) (x y : Outcome Fraction) → (x ≡ NoValue → ⊥) → (y ≡ NoValue → ⊥) → combined tokens at x y ≡ NoValue → ⊥
+combined_judged : (tokens : List Token) (at : ℕ) (x y : Outcome Fraction) → (x ≡ NoValue → ⊥) → (y ≡ NoValue → ⊥) → combined_outcome tokens at x y ≡ NoValue → ⊥
 combined_judged tokens at (BadAt i) y left right e = cc
 combined_judged tokens at NoValue y left right e = left refl
 combined_judged tokens at (Good p) (BadAt i) left right e = cc
@@ -151,15 +146,3 @@ module _ (tokens : List Token) (name : ℕ → List ℕ) (lines : List RateLineN
 
   pub lines_good : AreGood outcomes
   lines_good k outcome at = good_below (k + 1) k outcome (omega arith) at
-
--- ---- a value of the list
-
-pub value_good : (values : List (Result Rate Unvalued)) (i : ℕ) (value : Result Rate Unvalued) (why : Unvalued) → AreGood (map outcome_of values) → i < length values → value ≡ get_or values i value → value ≡ Err why → ⊥
-value_good values i value why good lt at bad =
-    let there : slice_get (map outcome_of values) i ≡ Some (outcome_of value) = slice_get-map outcome_of values i ∙ ap (option_map outcome_of) (slice_get_read values (length values) i value refl lt at) in
-    let found = good i (outcome_of value) there in
-    no_rate why found.0 (sym (ap outcome_of bad) ∙ found.1)
-  where
-    no_rate : (w : Unvalued) (rate : Rate) → outcome_of {X = Rate} (Err w) ≡ Good rate → ⊥
-    no_rate unvalued.NoValue rate e = cc
-    no_rate (unvalued.BadAt j) rate e = cc

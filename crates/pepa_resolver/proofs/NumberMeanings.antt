@@ -13,7 +13,7 @@ use Rattle.pepa_model.specs.Leaves.{without}
 use Rattle.pepa_resolver.specs.Parts.{process_ats, constants_in, processes_of}
 use Rattle.pepa_resolver.specs.Faults.{HasNone, UnknownAt}
 use Rattle.pepa_resolver.specs.Numbers.{first_places, place_in, words_in, actions_of, constants_of}
-use Rattle.pepa_resolver.proofs.Findings.{no_element, contains_here, contains_there, contains_cases, contains_map_to}
+use Rattle.node_orders.proofs.Elements.{no_element, contains_here, contains_there, contains_cases, contains_map_to}
 
 -- ---- the place of a name
 

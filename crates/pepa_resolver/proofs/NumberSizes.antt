@@ -7,7 +7,7 @@ use Rattle.std.proofs.Math.Nat.{pow-suc, pow-le-pow_right}
 use Rattle.std.proofs.lemmas.Bool.Decides.{nat_tests}
 use Rattle.std.proofs.lemmas.Option.{same_Some}
 use Rattle.pepa_lexer.specs.Bytes.{is_digit}
-use Rattle.pepa_lexer.specs.Lexemes.{Lexeme, Blank, LineComment, BlockComment, Word, Whole, Pointed, Mark, spelled, IsLexeme, Leads}
+use Rattle.pepa_lexer.specs.Lexemes.{Lexeme, Blank, LineComment, BlockComment, Word, Whole, Pointed, Mark, spelled, IsLexeme, StartsWithLexemes}
 use Rattle.pepa_lexer.specs.TokenLists.{place_of, kind_of, token_at, tokens_along, end_of, IsTokens}
 use Rattle.pepa_lexer.specs.declared.kinds.Place.{Place}
 use Rattle.pepa_lexer.specs.declared.kinds.Token.{Token}
@@ -95,7 +95,7 @@ token_small (Some kind) place from to small (suc i) token at = absurd (cc)
 nothing_small : HaveSmall []
 nothing_small i token there = absurd (cc)
 
-along_small : (input : List ℕ) (at : ℕ) (lexemes : List Lexeme) (bytes : List ℕ) → Leads lexemes bytes [] → HaveSmall (tokens_along input at lexemes)
+along_small : (input : List ℕ) (at : ℕ) (lexemes : List Lexeme) (bytes : List ℕ) → StartsWithLexemes lexemes bytes [] → HaveSmall (tokens_along input at lexemes)
 along_small input at [] bytes leads = nothing_small
 along_small input at (lexeme ∷ lexemes) bytes leads =
     small_append (token_at (kind_of lexeme) (place_of input at) at (at + length (spelled lexeme))) (tokens_along input (at + length (spelled lexeme)) lexemes)

@@ -4,13 +4,13 @@ use Rattle.std.proofs.lemmas.Option.{slice_get-get_or}
 use Rattle.pepa_rates.specs.declared.rate.Rate.{Rate}
 use Rattle.pepa_lexer.specs.declared.kinds.Token.{Token}
 use Rattle.pepa_reader.specs.Trees.{NumberAt, RateLineNode, FileNode}
-use Rattle.pepa_resolver.specs.Parts.{name_at}
+use Rattle.token_grammar.specs.Terminals.{name_at}
 use Rattle.pepa_resolver.specs.Outcomes.{Outcome, Good, AreOutcomes, looked_up, rate_outcome}
 use Rattle.pepa_resolver.specs.Named.{Named}
 use Rattle.pepa_resolver.specs.Numbers.{naming_of, named_bodies, named_system}
-use Rattle.pepa_resolver.specs.Graphs.{IsTableOf}
-use Rattle.pepa_resolver.specs.StructuredFiles.{IsNumbered}
-use Rattle.pepa_resolver.proofs.EdgeLists.{take_body}
+use Rattle.node_orders.specs.Graphs.{IsTableOf}
+use Rattle.pepa_resolver.specs.ResolvedFiles.{IsNumberedFile}
+use Rattle.node_orders.proofs.Elements.{take_next}
 
 -- ---- the values of rates
 
@@ -26,9 +26,9 @@ module _ (tokens : List Token) (name : ℕ → List ℕ) (lines : List RateLineN
       let at : slice_get lines n ≡ Some line = slice_get-get_or lines n any_line (omega arith) in
       let outcome : List (Outcome Rate) → Outcome Rate = λ front. rate_outcome tokens (looked_up name (take n lines) front) line.rate in
       let next : suc n ≡ n + 1 = omega arith in
-      ap (λ (k : ℕ). take k os) next ∙ take_body os n (outcome (take n os)) (a.each n line at)
+      ap (λ (k : ℕ). take k os) next ∙ take_next os n (outcome (take n os)) (a.each n line at)
       ∙ ap (λ (front : List (Outcome Rate)). front ++ outcome front ∷ []) before
-      ∙ sym (take_body ps n (outcome (take n ps)) (b.each n line at)) ∙ sym (ap (λ (k : ℕ). take k ps) next)
+      ∙ sym (take_next ps n (outcome (take n ps)) (b.each n line at)) ∙ sym (ap (λ (k : ℕ). take k ps) next)
 
   pub one_outcomes : (os ps : List (Outcome Rate)) → AreOutcomes tokens name lines os → AreOutcomes tokens name lines ps → os ≡ ps
   one_outcomes os ps a b =
@@ -71,7 +71,7 @@ one_table Holds xs ys e a b = same_flags xs ys e (λ k marked. b.complete k (a.s
 
 -- ---- numbers in place of names
 
-module _ (input : List ℕ) (tokens : List Token) (file : FileNode) (values values' : List Rate) (bodies bodies' : List Named) (system system' : Named) (s : IsNumbered input tokens file values bodies system) (t : IsNumbered input tokens file values' bodies' system') where
+module _ (input : List ℕ) (tokens : List Token) (file : FileNode) (values values' : List Rate) (bodies bodies' : List Named) (system system' : Named) (s : IsNumberedFile input tokens file values bodies system) (t : IsNumberedFile input tokens file values' bodies' system') where
   one_value_list : values ≡ values'
   one_value_list = same_good values values' (one_outcomes tokens (name_at input tokens) file.rates (map Good values) (map Good values') s.rates.lines t.rates.lines)
 

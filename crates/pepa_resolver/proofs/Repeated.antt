@@ -4,8 +4,9 @@ use Rattle.std.specs.List.{Contains}
 use Rattle.std.proofs.lemmas.List.{map-append}
 use Rattle.std.proofs.lemmas.List.Elements.{Contains-append_left, Contains-append_right, Contains-append_cases}
 use Rattle.pepa_resolver.specs.Faults.{IsRepeated, IsKnown}
-use Rattle.pepa_resolver.specs.Finding.{Finds, least_of}
-use Rattle.pepa_resolver.proofs.Findings.{finds_same, finds_either, one_element, contains_map_from, contains_map_to}
+use Rattle.pepa_resolver.specs.Finding.{FindsLeast, lesser_index}
+use Rattle.pepa_resolver.proofs.Findings.{finds_same, finds_either}
+use Rattle.node_orders.proofs.Elements.{one_element, contains_map_from, contains_map_to}
 
 -- a name with one behind it is the last, or has it among those behind
 pub push_split : {X : Type 0} (xs : List X) (y : X) (before : List X) (i : X) (behind : List X) → xs ++ y ∷ [] ≡ before ++ i ∷ behind → ((xs ≡ before) × (y ≡ i)) ⊎ ((more : List X) × (xs ≡ before ++ i ∷ more))
@@ -48,14 +49,14 @@ module _ (name : ℕ → List ℕ) where
         | inr s ↦ inl (record { before = h.before; behind = s.0; whole = s.1; earlier = h.earlier; among = h.among; same = h.same })
       ]
 
-  again : (ats : List ℕ) (at : ℕ) (found next : Option ℕ) → Finds (IsRepeated name ats) found → IsKnown name ats at → next ≡ least_of found (Some at) → Finds (IsRepeated name (ats ++ at ∷ [])) next
+  again : (ats : List ℕ) (at : ℕ) (found next : Option ℕ) → FindsLeast (IsRepeated name ats) found → IsKnown name ats at → next ≡ lesser_index found (Some at) → FindsLeast (IsRepeated name (ats ++ at ∷ [])) next
   again ats at found next finds known same =
       finds_either (IsRepeated name ats) (λ i. at ≡ i) (IsRepeated name (ats ++ at ∷ [])) found (Some at) next
       (more ats at) (λ i e. here ats at i known e)
       (λ i h. elim (cases ats at i h) [ inl a ↦ inl a | inr b ↦ inr b.0 ])
       finds (record { stands = refl; least = λ j e. omega arith }) same
 
-  new : (ats : List ℕ) (at : ℕ) (found : Option ℕ) → Finds (IsRepeated name ats) found → ¬ IsKnown name ats at → Finds (IsRepeated name (ats ++ at ∷ [])) found
+  new : (ats : List ℕ) (at : ℕ) (found : Option ℕ) → FindsLeast (IsRepeated name ats) found → ¬ IsKnown name ats at → FindsLeast (IsRepeated name (ats ++ at ∷ [])) found
   new ats at found finds unknown =
       finds_same (IsRepeated name ats) (IsRepeated name (ats ++ at ∷ [])) found (more ats at)
       (λ i h. elim (cases ats at i h) [ inl a ↦ a | inr b ↦ absurd (unknown b.1) ]) finds
@@ -63,7 +64,7 @@ module _ (name : ℕ → List ℕ) where
   -- what holds of the table and the least repeated name, of the indices so far
   pub record SoFar (ats : List ℕ) (names : List (List ℕ)) (repeated : Option ℕ) : Type 0 where
     pub listed : (x : List ℕ) → Contains names x ↔ Contains (map name ats) x
-    pub finds : Finds (IsRepeated name ats) repeated
+    pub finds : FindsLeast (IsRepeated name ats) repeated
     pub all : repeated ≡ None → names ≡ map name ats
 
   pub so_far_new : (ats : List ℕ) (at : ℕ) (names after : List (List ℕ)) (repeated : Option ℕ) → SoFar ats names repeated → (¬ Contains names (name at)) × (after ≡ names ++ name at ∷ []) → SoFar (ats ++ at ∷ []) after repeated
@@ -84,11 +85,11 @@ module _ (name : ℕ → List ℕ) where
       from x (inl a) = subst (λ (xs : List (List ℕ)). Contains xs x) (sym pushed) (Contains-append_left names (name at ∷ []) x ((h.listed x).1 a))
       from x (inr b) = subst (λ (xs : List (List ℕ)). Contains xs x) (sym pushed) (Contains-append_right names (name at ∷ []) x b)
 
-  some_least : (o : Option ℕ) (at : ℕ) → least_of o (Some at) ≡ None → ⊥
+  some_least : (o : Option ℕ) (at : ℕ) → lesser_index o (Some at) ≡ None → ⊥
   some_least None at e = cc
   some_least (Some i) at e = cc
 
-  pub so_far_again : (ats : List ℕ) (at : ℕ) (names after : List (List ℕ)) (repeated next : Option ℕ) → SoFar ats names repeated → Contains names (name at) × (after ≡ names) → next ≡ least_of repeated (Some at) → SoFar (ats ++ at ∷ []) after next
+  pub so_far_again : (ats : List ℕ) (at : ℕ) (names after : List (List ℕ)) (repeated next : Option ℕ) → SoFar ats names repeated → Contains names (name at) × (after ≡ names) → next ≡ lesser_index repeated (Some at) → SoFar (ats ++ at ∷ []) after next
   so_far_again ats at names after repeated next h (there, same) least = record {
     listed = λ x. (
       λ c. subst (λ (xs : List (List ℕ)). Contains xs x) (sym (map-append name ats (at ∷ []))) (Contains-append_left (map name ats) (name at ∷ []) x ((h.listed x).0 (subst (λ (xs : List (List ℕ)). Contains xs x) same c))),

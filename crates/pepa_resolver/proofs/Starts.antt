@@ -5,13 +5,13 @@ use Rattle.std.proofs.lemmas.List.Elements.{Contains-append_cases}
 use Rattle.pepa_rates.specs.declared.rate.Rate.{Rate}
 use Rattle.pepa_lexer.specs.declared.kinds.Token.{Token}
 use Rattle.pepa_lexer.specs.declared.kinds.Sign.TheVariants.{Closing, Semicolon, Dot, Plus, Slash, OpeningBrace, ClosingBrace}
-use Rattle.pepa_reader.specs.declared.terminal.Terminal.TheVariants.{Mark}
+use Rattle.token_grammar.specs.declared.terminal.Terminal.TheVariants.{Mark}
 use Rattle.pepa_reader.specs.Grammar as g
 use Rattle.pepa_reader.specs.Grammar.{rate_spelled, cooperation_spelled, process_spelled, choice_spelled, hidden_spelled, prefix_spelled, line_spelled, lines_spelled, words_spelled}
 use Rattle.pepa_reader.specs.Trees.{RateNode, RateLineNode, ProcessLineNode, ProcessNode, rate_tree, process_tree, choice_tree, hidden_tree, prefix_tree, rate_lines_from, process_lines_from, file_tree}
 use Rattle.pepa_resolver.specs.Parts.{RateSite, rates_in}
 use Rattle.pepa_resolver.specs.Outcomes.{Outcome, BadAt, rate_outcome, looked_up, BadRateAt, IsFirstBadRate}
-use Rattle.pepa_resolver.proofs.Findings.{no_element, one_element, contains_cases, contains_map_from}
+use Rattle.node_orders.proofs.Elements.{no_element, one_element, contains_cases, contains_map_from}
 use Rattle.pepa_resolver.proofs.Within.{Inside}
 
 -- each start lies within the span, and has one index

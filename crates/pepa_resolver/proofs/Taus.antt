@@ -5,9 +5,9 @@ use Rattle.std.proofs.lemmas.Option.{slice_get-map}
 use Rattle.pepa_lexer.specs.declared.kinds.Token.{Token}
 use Rattle.pepa_lexer.specs.declared.kinds.Kind.{Kind}
 use Rattle.pepa_lexer.specs.declared.kinds.Kind.TheVariants as kinds
-use Rattle.pepa_reader.specs.declared.terminal.Terminal.{Terminal}
-use Rattle.pepa_reader.specs.declared.terminal.Terminal.TheVariants.{Small, Probe, Tau, Capital, Top}
-use Rattle.pepa_reader.specs.Terminals.{text_of, small_terminal, terminal_from, terminal_of, terminals}
+use Rattle.token_grammar.specs.declared.terminal.Terminal.{Terminal}
+use Rattle.token_grammar.specs.declared.terminal.Terminal.TheVariants.{Small, Probe, Tau, Capital, Top}
+use Rattle.token_grammar.specs.Terminals.{text_of, small_terminal, terminal_from, terminal_of, terminals}
 use Rattle.pepa_resolver.specs.NamesAnswers.{IsTau}
 
 by_tests : (a b c : Bool) → (if a then Top else (if b then Tau else (if c then Probe else Small))) ≡ Tau → b ≡ true

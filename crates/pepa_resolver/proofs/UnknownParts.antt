@@ -4,17 +4,18 @@ use Rattle.std.specs.List.{Contains}
 use Rattle.std.proofs.lemmas.List.Elements.{Contains-append_left, Contains-append_right, Contains-append_cases}
 use Rattle.pepa_reader.specs.Trees.{RateNode, ProcessNode, ConstantAt, PrefixAt, ChoiceOf}
 use Rattle.pepa_resolver.specs.Parts.{names_in, constants_in, rates_in, RateSite}
-use Rattle.pepa_resolver.specs.Finding.{Finds, FindsIn, least_of, IsUnlisted, IsUnlistedIn}
-use Rattle.pepa_resolver.proofs.Findings.{finds_same, finds_either, no_element, one_element, contains_one}
+use Rattle.pepa_resolver.specs.Finding.{FindsLeast, FindsIn, lesser_index, IsUnlisted, IsUnlistedIn}
+use Rattle.pepa_resolver.proofs.Findings.{finds_same, finds_either}
+use Rattle.node_orders.proofs.Elements.{no_element, one_element, contains_one}
 
-pub constant_finds : (name : ℕ → List ℕ) (constants rates : List (List ℕ)) (at : ℕ) (o : Option ℕ) → FindsIn (IsUnlisted name constants) (at ∷ []) o → Finds (IsUnlistedIn name constants rates (ConstantAt at)) o
+pub constant_finds : (name : ℕ → List ℕ) (constants rates : List (List ℕ)) (at : ℕ) (o : Option ℕ) → FindsIn (IsUnlisted name constants) (at ∷ []) o → FindsLeast (IsUnlistedIn name constants rates (ConstantAt at)) o
 constant_finds name constants rates at o found =
     finds_same (λ i. Contains (at ∷ []) i × IsUnlisted name constants i) (IsUnlistedIn name constants rates (ConstantAt at)) o
     (λ i h. inl h)
     (λ i h. elim h [ inl a ↦ a | inr b ↦ absurd (no_element b.0.0 b.0.1) ])
     found
 
-pub prefix_finds : (name : ℕ → List ℕ) (constants rates : List (List ℕ)) (at : ℕ) (rate : RateNode) (next : ProcessNode) (l r o : Option ℕ) → FindsIn (IsUnlisted name rates) (names_in rate) l → Finds (IsUnlistedIn name constants rates next) r → o ≡ least_of l r → Finds (IsUnlistedIn name constants rates (PrefixAt at rate next)) o
+pub prefix_finds : (name : ℕ → List ℕ) (constants rates : List (List ℕ)) (at : ℕ) (rate : RateNode) (next : ProcessNode) (l r o : Option ℕ) → FindsIn (IsUnlisted name rates) (names_in rate) l → FindsLeast (IsUnlistedIn name constants rates next) r → o ≡ lesser_index l r → FindsLeast (IsUnlistedIn name constants rates (PrefixAt at rate next)) o
 prefix_finds name constants rates at rate next l r o fl fr same =
     finds_either (λ i. Contains (names_in rate) i × IsUnlisted name rates i) (IsUnlistedIn name constants rates next) (IsUnlistedIn name constants rates (PrefixAt at rate next)) l r o
     (λ i h. inr ((site, Contains-append_left (site ∷ []) (rates_in next) site (contains_one site), h.0), h.1))
@@ -32,7 +33,7 @@ prefix_finds name constants rates at rate next l r o fl fr same =
     site = record { site_at = at; rate = rate }
 
 -- a choice and a cooperation have the names of both sides
-pub sides_find : (name : ℕ → List ℕ) (constants rates : List (List ℕ)) (left right : ProcessNode) (l r o : Option ℕ) → Finds (IsUnlistedIn name constants rates left) l → Finds (IsUnlistedIn name constants rates right) r → o ≡ least_of l r → Finds (IsUnlistedIn name constants rates (ChoiceOf left right)) o
+pub sides_find : (name : ℕ → List ℕ) (constants rates : List (List ℕ)) (left right : ProcessNode) (l r o : Option ℕ) → FindsLeast (IsUnlistedIn name constants rates left) l → FindsLeast (IsUnlistedIn name constants rates right) r → o ≡ lesser_index l r → FindsLeast (IsUnlistedIn name constants rates (ChoiceOf left right)) o
 sides_find name constants rates left right l r o fl fr same =
     finds_either (IsUnlistedIn name constants rates left) (IsUnlistedIn name constants rates right) (IsUnlistedIn name constants rates (ChoiceOf left right)) l r o
     (λ i h. elim h [

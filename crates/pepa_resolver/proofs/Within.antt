@@ -10,21 +10,21 @@ use Rattle.pepa_rates.specs.declared.rate.Rate.{Rate}
 use Rattle.pepa_rates.specs.declared.rate.Rate.TheVariants.{Active, Passive}
 use Rattle.pepa_lexer.specs.declared.kinds.Token.{Token}
 use Rattle.pepa_reader.specs.declared.trees.FileTree.{FileTree}
-use Rattle.pepa_reader.specs.Terminals.{terminals, terminal_of}
+use Rattle.token_grammar.specs.Terminals.{terminals, terminal_of, name_at}
 use Rattle.pepa_lexer.specs.declared.kinds.Sign.TheVariants.{Closing, Semicolon, Dot, Plus, Slash, Greater, OpeningBrace, ClosingBrace}
-use Rattle.pepa_reader.specs.declared.terminal.Terminal.{Terminal}
-use Rattle.pepa_reader.specs.declared.terminal.Terminal.TheVariants.{Mark, Tau}
+use Rattle.token_grammar.specs.declared.terminal.Terminal.{Terminal}
+use Rattle.token_grammar.specs.declared.terminal.Terminal.TheVariants.{Mark, Tau}
 use Rattle.pepa_reader.specs.Grammar as g
 use Rattle.pepa_reader.specs.Grammar.{sum_spelled, product_spelled, factor_spelled, rate_spelled, cooperation_spelled, process_spelled, choice_spelled, hidden_spelled, prefix_spelled, line_spelled, lines_spelled, item_spelled, file_spelled, words_spelled, further_words, word_spelled, small_spelled, sum_sign_spelled, product_sign_spelled, ending_spelled}
 use Rattle.pepa_reader.specs.Trees.{RateNode, NumberAt, NameAt, TopAt, OpAt, BracketOf, ProcessNode, ConstantAt, PrefixAt, ChoiceOf, CoopAt, HideOf, RateLineNode, ProcessLineNode, FileNode, sum_tree, product_tree, factor_tree, rate_tree, word_indices, cooperation_indices, process_tree, choice_tree, hidden_tree, prefix_tree, rate_lines_from, process_lines_from, file_tree, file_node_of}
 use Rattle.pepa_reader.specs.FileAnswers.{IsFileTree}
-use Rattle.pepa_resolver.specs.Parts.{name_at, names_in, constants_in, rates_in, RateSite, rate_ats, process_ats, processes_of}
-use Rattle.pepa_resolver.specs.declared.cause.CheckCause.{CheckCause}
-use Rattle.pepa_resolver.specs.declared.cause.CheckCause.TheVariants.{Twice, UnknownName, TauInSet, BadRate, TooMany}
-use Rattle.pepa_resolver.specs.Outcomes.{Outcome, Good, NoValue, BadAt, is_fine, number_value, op_value, inner_name, combined, sum_outcome, active_outcome, rate_outcome, value_of, looked_up, AreOutcomes, BadRateAt}
+use Rattle.pepa_resolver.specs.Parts.{names_in, constants_in, rates_in, RateSite, rate_ats, process_ats, processes_of}
+use Rattle.pepa_resolver.specs.declared.refusal.ResolveCause.{ResolveCause}
+use Rattle.pepa_resolver.specs.declared.refusal.ResolveCause.TheVariants.{Twice, UnknownName, TauInSet, BadRate, TooManyLines}
+use Rattle.pepa_resolver.specs.Outcomes.{Outcome, Good, NoValue, BadAt, is_fine, number_value, op_value, inner_name, combined_outcome, sum_outcome, active_outcome, rate_outcome, value_of, looked_up, AreOutcomes, BadRateAt}
 use Rattle.pepa_resolver.specs.Faults.{IsRepeated, TooManyAt, TwiceAt, UnknownAt}
-use Rattle.pepa_resolver.specs.NamesAnswers.{IsRefusedFor}
-use Rattle.pepa_resolver.proofs.Findings.{no_element, one_element, contains_here, contains_cases, contains_map_from}
+use Rattle.pepa_resolver.specs.NamesAnswers.{IsNamesRefusedFor}
+use Rattle.node_orders.proofs.Elements.{no_element, one_element, contains_here, contains_cases, contains_map_from}
 
 -- ---- each index in a tree
 
@@ -218,7 +218,7 @@ inner_bad (Good (Passive q)) at i h = cc
 inner_bad NoValue at i h = absurd cc
 inner_bad (BadAt j) at i h = absurd cc
 
-combined_bad : (tokens : List Token) (at : ℕ) (x y : Outcome Fraction) (i : ℕ) → combined tokens at x y ≡ BadAt i → (at ≡ i) ⊎ ((x ≡ BadAt i) ⊎ (y ≡ BadAt i))
+combined_bad : (tokens : List Token) (at : ℕ) (x y : Outcome Fraction) (i : ℕ) → combined_outcome tokens at x y ≡ BadAt i → (at ≡ i) ⊎ ((x ≡ BadAt i) ⊎ (y ≡ BadAt i))
 combined_bad tokens at (BadAt j) y i h = inr (inl h)
 combined_bad tokens at (Good p) (BadAt j) i h = inr (inr h)
 combined_bad tokens at NoValue (BadAt j) i h = inr (inr h)
@@ -330,7 +330,7 @@ module _ (P : ℕ → Type 0) (file : FileNode) (each : EachInFile P file) where
       rate_bad P tokens (looked_up name file.rates outcomes) site.rate i (λ at j e. looked_up_bad name file.rates outcomes at j e) bad (site_each P process site (process_each process there) among).1
 
 -- an index that a refusal tells is that of a token
-pub refused_within : (input : List ℕ) (tokens : List Token) (tree : FileTree) (cause : CheckCause) (i : ℕ) → IsFileTree (terminals input tokens) tree → IsRefusedFor input tokens (file_node_of tree) cause i → i < length tokens
+pub refused_within : (input : List ℕ) (tokens : List Token) (tree : FileTree) (cause : ResolveCause) (i : ℕ) → IsFileTree (terminals input tokens) tree → IsNamesRefusedFor input tokens (file_node_of tree) cause i → i < length tokens
 refused_within input tokens tree cause i is h = by cause h
   where
     count : length (file_spelled is.file) ≡ length tokens
@@ -342,10 +342,9 @@ refused_within input tokens tree cause i is h = by cause h
     at_token : (t : Terminal) → slice_get (terminals input tokens) i ≡ Some t → i < length tokens
     at_token t e = let lt = slice_get_within (terminals input tokens) i t e in subst (λ n. i < n) (length-map tokens (terminal_of input)) lt
 
-    by : (cause : CheckCause) → IsRefusedFor input tokens (file_node_of tree) cause i → i < length tokens
-    by TooMany r = (limit_each (Inside 0 (length tokens)) (file_node_of tree) each i r.stands).1
+    by : (cause : ResolveCause) → IsNamesRefusedFor input tokens (file_node_of tree) cause i → i < length tokens
+    by TooManyLines r = (limit_each (Inside 0 (length tokens)) (file_node_of tree) each i r.stands).1
     by Twice r = (twice_each (Inside 0 (length tokens)) (file_node_of tree) each (name_at input tokens) i r.1.stands).1
     by UnknownName r = (unknown_each (Inside 0 (length tokens)) (file_node_of tree) each (name_at input tokens) i r.1.stands).1
     by TauInSet r = at_token Tau r.1.stands.1
     by BadRate r = (bad_each (Inside 0 (length tokens)) (file_node_of tree) each tokens (name_at input tokens) r.1.0 r.1.2.start i r.1.1 r.1.2.bad).1
-    by _ r = elim r [ ]

@@ -6,19 +6,19 @@ use Rattle.pepa_resolver.specs.Parts.{constants_in, names_in, rates_in, RateSite
 use Rattle.pepa_resolver.specs.Faults.{HasNone, IsLeast}
 
 -- the least index where it stands, or none where it stands nowhere
-abbrev pub Finds : (ℕ → Type 0) → Option ℕ → Type 0
-Finds Stands None = HasNone Stands
-Finds Stands (Some i) = IsLeast Stands i
+abbrev pub FindsLeast : (ℕ → Type 0) → Option ℕ → Type 0
+FindsLeast Stands None = HasNone Stands
+FindsLeast Stands (Some i) = IsLeast Stands i
 
 -- the lesser of two indices, as far as they are there
-abbrev pub least_of : Option ℕ → Option ℕ → Option ℕ
-least_of None right = right
-least_of (Some i) None = Some i
-least_of (Some i) (Some j) = Some (min i j)
+abbrev pub lesser_index : Option ℕ → Option ℕ → Option ℕ
+lesser_index None right = right
+lesser_index (Some i) None = Some i
+lesser_index (Some i) (Some j) = Some (min i j)
 
 -- the least of these indices where it stands
 abbrev pub FindsIn : (ℕ → Type 0) → List ℕ → Option ℕ → Type 0
-FindsIn Stands indices found = Finds (λ i. Contains indices i × Stands i) found
+FindsIn Stands indices found = FindsLeast (λ i. Contains indices i × Stands i) found
 
 -- the name at an index is none of these
 abbrev pub IsUnlisted : (ℕ → List ℕ) → List (List ℕ) → ℕ → Type 0

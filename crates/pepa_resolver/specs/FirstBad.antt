@@ -1,12 +1,12 @@
 -- The refused rate that begins first.
-use Rattle.std.specs.Prelude.{◌≡◌, ℕ, ◌<◌, nat_lt, if◌then◌else◌, List, Option, Some, None, slice_get}
+use Rattle.std.specs.Prelude.{◌≡◌, ℕ, ◌<◌, nat_lt, if◌then◌else◌, List, [], ◌∷◌, flat_map, Option, Some, None, slice_get}
 use Rattle.std.specs.List.{Contains}
 use Rattle.pepa_rates.specs.declared.rate.Rate.{Rate}
 use Rattle.pepa_lexer.specs.declared.kinds.Token.{Token}
-use Rattle.pepa_reader.specs.Trees.{RateLineNode, ProcessNode}
-use Rattle.pepa_resolver.specs.declared.sites.BadRate.{BadRate}
+use Rattle.pepa_reader.specs.Trees.{RateNode, RateLineNode, ProcessNode, ProcessLineNode}
+use Rattle.pepa_resolver.specs.declared.bad_rates.BadRate.{BadRate}
 use Rattle.pepa_resolver.specs.Parts.{RateSite, rates_in}
-use Rattle.pepa_resolver.specs.Outcomes.{Outcome, BadAt, rate_outcome}
+use Rattle.pepa_resolver.specs.Outcomes.{Outcome, Good, NoValue, BadAt, rate_outcome}
 
 -- the answer is the refusal that begins first, if there is one; `Bad start at`: what begins at `start` is refused at `at`
 abbrev pub IsEarliest : (ℕ → ℕ → Type 0) → Option BadRate → Type 0
@@ -26,6 +26,21 @@ BadSite tokens named sites start at = (site : RateSite) × Contains sites site �
 -- the rate of an activity of one of these processes is refused
 abbrev pub BadProcess : List Token → (ℕ → Outcome Rate) → List ProcessNode → ℕ → ℕ → Type 0
 BadProcess tokens named processes start at = (process : ProcessNode) × Contains processes process × BadSite tokens named (rates_in process) start at
+
+-- the refusal of a rate that begins at an index, if its outcome is one
+abbrev pub refusal_from : ℕ → Outcome Rate → Option BadRate
+refusal_from start (Good rate) = None
+refusal_from start NoValue = None
+refusal_from start (BadAt at) = Some (record { start = start; at = at })
+
+-- the refusal that begins first, of one and of those of these activities, whose rates have these outcomes
+abbrev pub earliest_in : (RateNode → Outcome Rate) → Option BadRate → List RateSite → Option BadRate
+earliest_in outcome bad [] = bad
+earliest_in outcome bad (site ∷ sites) = earliest_in outcome (earlier_of bad (refusal_from site.site_at (outcome site.rate))) sites
+
+-- the activities in the right sides of these lines
+abbrev pub line_sites : List ProcessLineNode → List RateSite
+line_sites lines = flat_map (λ line. rates_in line.body) lines
 
 -- the rate of one of these lines, which have these outcomes, is refused
 abbrev pub BadLine : List RateLineNode → List (Outcome Rate) → ℕ → ℕ → Type 0

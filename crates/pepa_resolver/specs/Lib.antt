@@ -1,4 +1,5 @@
 pub mod Parts
+pub mod Sources
 pub mod Faults
 pub mod Outcomes
 pub mod NamesAnswers
@@ -7,15 +8,8 @@ pub mod NamesChecks
 pub mod Values
 pub mod FirstBad
 pub mod CheckedRates
-pub mod FirstChecks
 pub mod Named
 pub mod NamedTypes
 pub mod Numbers
 pub mod NumberSteps
-pub mod Structure
-pub mod Graphs
-pub mod Marking
-pub mod Ranks
-pub mod RankLists
-pub mod StructureAnswers
-pub mod StructuredFiles
+pub mod ResolvedFiles

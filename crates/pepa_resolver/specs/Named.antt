@@ -20,9 +20,9 @@ with_number n [] = n ∷ []
 with_number n (m ∷ ms) = if nat_lt n m then n ∷ m ∷ ms else (if nat_eq n m then m ∷ ms else m ∷ with_number n ms)
 
 -- the numbers in ascending order, each once
-abbrev pub set_of : List ℕ → List ℕ
-set_of [] = []
-set_of (n ∷ ns) = with_number n (set_of ns)
+abbrev pub ascending_set : List ℕ → List ℕ
+ascending_set [] = []
+ascending_set (n ∷ ns) = with_number n (ascending_set ns)
 
 -- the number of the constant and of the action type at an index, and the value of a rate
 pub record Naming : Type 0 where
@@ -34,8 +34,8 @@ abbrev pub named : Naming → ProcessNode → Named
 named naming (ConstantAt at) = NamedConstant at (naming.constant at)
 named naming (PrefixAt at rate next) = NamedPrefix at (naming.action (at + 1)) (naming.rate_of rate) (named naming next)
 named naming (ChoiceOf left right) = NamedChoice (named naming left) (named naming right)
-named naming (CoopAt at left right set) = NamedCoop (named naming left) (named naming right) (set_of (map naming.action set))
-named naming (HideOf inner set) = NamedHide (named naming inner) (set_of (map naming.action set))
+named naming (CoopAt at left right set) = NamedCoop (named naming left) (named naming right) (ascending_set (map naming.action set))
+named naming (HideOf inner set) = NamedHide (named naming inner) (ascending_set (map naming.action set))
 
 -- the first constant of a process, or the `(` of its first activity, whichever stands first
 abbrev pub first_at : Named → ℕ

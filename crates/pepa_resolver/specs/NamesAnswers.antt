@@ -1,17 +1,14 @@
 -- What the checks of limits, names, sets and rates answer.
-use Rattle.std.specs.Prelude.{◌≡◌, ℕ, List, Some, slice_get}
-use Rattle.pepa_rates.specs.declared.rate.Rate.{Rate}
+use Rattle.std.specs.Prelude.{ℕ, List}
 use Rattle.pepa_lexer.specs.declared.kinds.Token.{Token}
-use Rattle.pepa_lexer.specs.declared.kinds.Place.{Place}
-use Rattle.pepa_reader.specs.Terminals.{terminals}
-use Rattle.pepa_reader.specs.declared.terminal.Terminal.TheVariants.{Tau}
-use Rattle.pepa_reader.specs.FileAnswers.{StandsAt}
+use Rattle.token_grammar.specs.Terminals.{terminals, name_at}
+use Rattle.token_grammar.specs.declared.terminal.Terminal.TheVariants.{Tau}
+use Rattle.token_grammar.specs.Languages.{StandsAt}
 use Rattle.pepa_reader.specs.Trees.{FileNode}
-use Rattle.pepa_resolver.specs.declared.cause.CheckCause.{CheckCause}
-use Rattle.pepa_resolver.specs.declared.cause.CheckCause.TheVariants.{Twice, UnknownName, TauInSet, BadRate, TooMany}
-use Rattle.pepa_resolver.specs.Parts.{name_at}
+use Rattle.pepa_resolver.specs.declared.refusal.ResolveCause.{ResolveCause}
+use Rattle.pepa_resolver.specs.declared.refusal.ResolveCause.TheVariants.{Twice, UnknownName, TauInSet, BadRate, TooManyLines}
 use Rattle.pepa_resolver.specs.Faults.{HasNone, IsLeast, TooManyAt, TwiceAt, UnknownAt, TauAt}
-use Rattle.pepa_resolver.specs.Outcomes.{Outcome, AreOutcomes, IsFirstBadRate}
+use Rattle.pepa_resolver.specs.Outcomes.{IsBadRateOf}
 
 abbrev pub IsTau : List ℕ → List Token → ℕ → Type 0
 IsTau input tokens i = StandsAt (terminals input tokens) i Tau
@@ -30,19 +27,9 @@ abbrev pub FineSets : List ℕ → List Token → FileNode → Type 0
 FineSets input tokens file = KnownNames input tokens file × HasNone (TauAt (IsTau input tokens) file)
 
 -- the file is refused for the cause at the index, one of these five
-abbrev pub IsRefusedFor : List ℕ → List Token → FileNode → CheckCause → ℕ → Type 0
-IsRefusedFor input tokens file TooMany i = IsLeast (TooManyAt file) i
-IsRefusedFor input tokens file Twice i = FineLimits input tokens file × IsLeast (TwiceAt (name_at input tokens) file) i
-IsRefusedFor input tokens file UnknownName i = FineNames input tokens file × IsLeast (UnknownAt (name_at input tokens) file) i
-IsRefusedFor input tokens file TauInSet i = KnownNames input tokens file × IsLeast (TauAt (IsTau input tokens) file) i
-IsRefusedFor input tokens file BadRate i =
-    FineSets input tokens file × ((outcomes : List (Outcome Rate)) × AreOutcomes tokens (name_at input tokens) file.rates outcomes × IsFirstBadRate tokens (name_at input tokens) file outcomes i)
-IsRefusedFor input tokens file _ i = ⊥
-
--- at the place of the token at the index
-pub record IsRefusal (input : List ℕ) (tokens : List Token) (file : FileNode) (cause : CheckCause) (place : Place) : Type 0 where
-  pub i : ℕ
-  pub refused : IsRefusedFor input tokens file cause i
-  pub token : Token
-  pub is_token : slice_get tokens i ≡ Some token
-  pub place_is : place ≡ token.place
+abbrev pub IsNamesRefusedFor : List ℕ → List Token → FileNode → ResolveCause → ℕ → Type 0
+IsNamesRefusedFor input tokens file TooManyLines i = IsLeast (TooManyAt file) i
+IsNamesRefusedFor input tokens file Twice i = FineLimits input tokens file × IsLeast (TwiceAt (name_at input tokens) file) i
+IsNamesRefusedFor input tokens file UnknownName i = FineNames input tokens file × IsLeast (UnknownAt (name_at input tokens) file) i
+IsNamesRefusedFor input tokens file TauInSet i = KnownNames input tokens file × IsLeast (TauAt (IsTau input tokens) file) i
+IsNamesRefusedFor input tokens file BadRate i = FineSets input tokens file × IsBadRateOf tokens (name_at input tokens) file i

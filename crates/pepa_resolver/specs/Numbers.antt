@@ -7,14 +7,15 @@ use Rattle.indexmap.specs.IndexMap.{keys}
 use Rattle.pepa_rates.specs.declared.rate.Rate.{Rate}
 use Rattle.pepa_rates.specs.declared.rate.Rate.TheVariants.{Passive}
 use Rattle.pepa_lexer.specs.declared.kinds.Token.{Token}
-use Rattle.pepa_model.specs.Leaves.{each_once, place_of}
+use Rattle.pepa_model.specs.Leaves.{each_once, position_of}
 use Rattle.pepa_reader.specs.Trees.{ProcessNode, ConstantAt, PrefixAt, ChoiceOf, CoopAt, HideOf, FileNode}
 use Rattle.pepa_resolver.specs.declared.naming.NamedFile.{NamedFile}
-use Rattle.pepa_resolver.specs.Parts.{name_at, process_ats, processes_of}
+use Rattle.token_grammar.specs.Terminals.{name_at}
+use Rattle.pepa_resolver.specs.Parts.{process_ats, processes_of}
 use Rattle.pepa_resolver.specs.Outcomes.{Outcome, Good, NoValue, BadAt, looked_up, rate_outcome}
 use Rattle.pepa_resolver.specs.Named.{Named, NamedConstant, NamedPrefix, NamedChoice, NamedCoop, NamedHide, Naming, named, constants_named}
 use Rattle.pepa_resolver.specs.NamedTypes.{named_of}
-use Rattle.pepa_resolver.specs.Graphs.{AreBelow}
+use Rattle.node_orders.specs.Graphs.{AreBelow}
 
 -- ---- names and their places
 
@@ -24,7 +25,7 @@ first_places names = each_once bytes_eq names
 
 -- a name's place, or 0 if it has none
 abbrev pub place_in : List (List ℕ) → List ℕ → ℕ
-place_in names name = place_of bytes_eq names name
+place_in names name = position_of bytes_eq names name
 
 -- ---- the numbers of a file
 
@@ -46,17 +47,17 @@ constants_of name file = map name (process_ats file.processes)
 
 -- the rate that an outcome is. In a checked file every rate of an activity has a value, so it doesn't matter what stands for
 -- the other outcomes.
-abbrev pub rate_in : Outcome Rate → Rate
-rate_in (Good rate) = rate
-rate_in NoValue = Passive (record { num = 1; den = 1 })
-rate_in (BadAt i) = Passive (record { num = 1; den = 1 })
+abbrev pub rate_of_outcome : Outcome Rate → Rate
+rate_of_outcome (Good rate) = rate
+rate_of_outcome NoValue = Passive (record { num = 1; den = 1 })
+rate_of_outcome (BadAt i) = Passive (record { num = 1; den = 1 })
 
 -- what stands for the names of a file whose rate lines have these values
 abbrev pub naming_of : (ℕ → List ℕ) → List Token → FileNode → List Rate → Naming
 naming_of name tokens file values = record {
   constant = λ i. place_in (constants_of name file) (name i);
   action = λ i. place_in (actions_of name file) (name i);
-  rate_of = λ rate. rate_in (rate_outcome tokens (looked_up name file.rates (map Good values)) rate);
+  rate_of = λ rate. rate_of_outcome (rate_outcome tokens (looked_up name file.rates (map Good values)) rate);
 }
 
 -- what the constants stand for, by number, and the system

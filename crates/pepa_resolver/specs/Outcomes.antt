@@ -61,21 +61,21 @@ inner_name at NoValue = NoValue
 inner_name at (BadAt i) = NoValue
 
 -- both sides of an operator, the left one first; where one has no value, the operator isn't judged
-abbrev pub combined : List Token → ℕ → Outcome Fraction → Outcome Fraction → Outcome Fraction
-combined tokens at (BadAt i) y = BadAt i
-combined tokens at (Good p) (BadAt i) = BadAt i
-combined tokens at NoValue (BadAt i) = BadAt i
-combined tokens at (Good p) (Good q) = fine_at at (op_value (slice_get tokens at) p q)
-combined tokens at (Good p) NoValue = NoValue
-combined tokens at NoValue (Good q) = NoValue
-combined tokens at NoValue NoValue = NoValue
+abbrev pub combined_outcome : List Token → ℕ → Outcome Fraction → Outcome Fraction → Outcome Fraction
+combined_outcome tokens at (BadAt i) y = BadAt i
+combined_outcome tokens at (Good p) (BadAt i) = BadAt i
+combined_outcome tokens at NoValue (BadAt i) = BadAt i
+combined_outcome tokens at (Good p) (Good q) = fine_at at (op_value (slice_get tokens at) p q)
+combined_outcome tokens at (Good p) NoValue = NoValue
+combined_outcome tokens at NoValue (Good q) = NoValue
+combined_outcome tokens at NoValue NoValue = NoValue
 
 -- a sum, product or part of one, where `named` gives the outcome of the rate that the name at an index has
 abbrev pub sum_outcome : List Token → (ℕ → Outcome Rate) → RateNode → Outcome Fraction
 sum_outcome tokens named (NumberAt at) = fine_at at (number_value (slice_get tokens at))
 sum_outcome tokens named (NameAt at) = inner_name at (named at)
 sum_outcome tokens named (TopAt weight at) = BadAt at
-sum_outcome tokens named (OpAt at left right) = combined tokens at (sum_outcome tokens named left) (sum_outcome tokens named right)
+sum_outcome tokens named (OpAt at left right) = combined_outcome tokens at (sum_outcome tokens named left) (sum_outcome tokens named right)
 sum_outcome tokens named (BracketOf inner) = sum_outcome tokens named inner
 
 abbrev pub active_outcome : Outcome Fraction → Outcome Rate
@@ -126,3 +126,8 @@ pub record IsFirstBadRate (tokens : List Token) (name : ℕ → List ℕ) (file 
   pub start : ℕ
   pub bad : BadRateAt tokens name file outcomes start i
   pub first : (other j : ℕ) → BadRateAt tokens name file outcomes other j → ¬ (other < start)
+
+-- the first refusal of the file, where its rate lines have the outcomes that they have
+abbrev pub IsBadRateOf : List Token → (ℕ → List ℕ) → FileNode → ℕ → Type 0
+IsBadRateOf tokens name file i =
+    (outcomes : List (Outcome Rate)) × AreOutcomes tokens name file.rates outcomes × IsFirstBadRate tokens name file outcomes i

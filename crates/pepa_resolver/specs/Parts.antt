@@ -1,17 +1,6 @@
 -- The parts of a file's tree that the checks speak of, each list in the order of the text.
-use Rattle.std.specs.Prelude.{ℕ, List, [], ◌∷◌, ◌++◌, map, Option, Some, None, slice_get}
-use Rattle.pepa_lexer.specs.declared.kinds.Token.{Token}
-use Rattle.pepa_reader.specs.Terminals.{text_of}
+use Rattle.std.specs.Prelude.{ℕ, List, [], ◌∷◌, ◌++◌, map}
 use Rattle.pepa_reader.specs.Trees.{RateNode, NumberAt, NameAt, TopAt, OpAt, BracketOf, ProcessNode, ConstantAt, PrefixAt, ChoiceOf, CoopAt, HideOf, RateLineNode, ProcessLineNode, FileNode}
-
--- the bytes of a token, if there is one
-abbrev pub bytes_of : List ℕ → Option Token → List ℕ
-bytes_of input None = []
-bytes_of input (Some token) = text_of input token
-
--- the name at an index
-abbrev pub name_at : List ℕ → List Token → ℕ → List ℕ
-name_at input tokens i = bytes_of input (slice_get tokens i)
 
 -- the rate names in a rate
 abbrev pub names_in : RateNode → List ℕ

@@ -8,7 +8,7 @@ use Rattle.pepa_resolver.specs.declared.values.Unvalued.{Unvalued}
 use Rattle.pepa_resolver.specs.declared.values.Unvalued.TheVariants as unvalued
 use Rattle.indexmap.specs.IndexMap.{keys}
 use Rattle.pepa_resolver.specs.declared.values.Rates.{Rates}
-use Rattle.pepa_resolver.specs.Parts.{name_at}
+use Rattle.pepa_resolver.specs.Sources.{name_in}
 use Rattle.pepa_resolver.specs.Outcomes.{Outcome, Good, NoValue, BadAt, value_of}
 
 -- what evaluating came to
@@ -37,9 +37,9 @@ abbrev pub tokens_of : Rates → List Token
 tokens_of rates = rates.source.tokens.now
 
 -- the name at an index
-abbrev pub name_of : Rates → ℕ → List ℕ
-name_of rates = name_at rates.source.input.now rates.source.tokens.now
+abbrev pub rate_name_at : Rates → ℕ → List ℕ
+rate_name_at rates = name_in rates.source
 
 -- the outcome of the rate that the name at an index has
-abbrev pub named_of : Rates → ℕ → Outcome Rate
-named_of rates i = named_in (keys rates.names.now) (map outcome_of rates.values.now) (name_of rates i)
+abbrev pub named_outcome : Rates → ℕ → Outcome Rate
+named_outcome rates i = named_in (keys rates.names.now) (map outcome_of rates.values.now) (rate_name_at rates i)

@@ -1,30 +1,24 @@
-//! The checks of a file up to its structure: its limits, its names, its sets, its rates, and what reaches itself. They put
-//! numbers in place of its names.
+//! A file with numbers in place of its names, its sets and its rates; or the first fault of its limits on lines, its names, its
+//! sets and its rates.
 #![tactic(auto)]
 
-mod cause;
-mod checks;
-mod compounds;
-mod cycles;
-mod file_structure;
+mod bad_rates;
 pub mod laws;
-mod least;
+mod lesser;
 mod lines;
 mod named;
 mod names;
 mod naming;
 mod numbers;
-mod orders;
+mod refusal;
+mod resolving;
 mod sets;
-mod sites;
 mod source;
-mod structure;
 mod tables;
 mod unknown;
 mod values;
 
-pub use cause::{CheckCause, CheckEnd};
-pub use checks::{NamesAndRates, RateList, check_names_and_rates};
-pub use file_structure::{StructuredFile, check_names_rates_and_structure};
-pub use named::NamedProcess;
-pub use names::Names;
+pub use lesser::least;
+pub use named::{NamedProcess, NumberedFile};
+pub use refusal::{ResolveCause, ResolveEnd};
+pub use resolving::resolve;

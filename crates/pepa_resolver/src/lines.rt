@@ -3,7 +3,8 @@
 ghost use Rattle.std.specs.Prelude.{◌≡◌, map, IfOk};
 ghost use Rattle.indexmap.specs.IndexMap.{keys};
 ghost use Rattle.pepa_reader.specs.Trees.{rate_line_of};
-ghost use Rattle.pepa_resolver.specs.Parts.{name_at, rate_ats};
+ghost use Rattle.pepa_resolver.specs.Parts.{rate_ats};
+ghost use Rattle.pepa_resolver.specs.Sources.{name_in};
 ghost use Rattle.pepa_resolver.specs.Outcomes.{AreOutcomes};
 ghost use Rattle.pepa_resolver.specs.Values.{outcome_of, AreSmall};
 
@@ -23,8 +24,9 @@ pub(crate) fn line_values(
     lines: &[RateLine],
 ) -> Result<Items<RateValue>, AllocError>
     requires small { AreSmall source.tokens.now }
-    requires names { keys names.now ≡ map (name_at source.input.now source.tokens.now) (rate_ats (map rate_line_of lines.now)) }
-    ensures { IfOk result (λ values. AreOutcomes source.entry.tokens.now (name_at source.entry.input.now source.entry.tokens.now) (map rate_line_of lines.now) (map outcome_of values)) }
+    requires names { keys names.now ≡ map (name_in source) (rate_ats (map rate_line_of lines.now)) }
+    ensures { IfOk result (λ values. AreOutcomes source.entry.tokens.now (name_in source.entry)
+        (map rate_line_of lines.now) (map outcome_of values)) }
 {
     let mut values = Items::new(alloc);
     for line in lines {

@@ -1,3 +1,7 @@
+//! Processes and files with numbers in place of names.
+
+use indexmap::IndexMap;
+use pepa_model::Name;
 use pepa_rates::Rate;
 use sqlite_items::Items;
 
@@ -29,4 +33,19 @@ pub enum NamedProcess {
         inner: Box<NamedProcess>,
         set: Items<u32>,
     },
+}
+
+/// A file with numbers in place of names, exact rates and sets in ascending order, without a fault of its limits on lines, its
+/// names, its sets and its rates.
+///
+/// Each constant and each action type in its processes has a number that is there, and there are at most 1,024 constants.
+#[derive(Drop)]
+pub struct NumberedFile {
+    /// The names of the constants, each at the place of its number: that of its line among the process lines.
+    pub constants: IndexMap<Name, ()>,
+    /// `tau`, and then each action type at its first place in the text, each at the place of its number.
+    pub actions: IndexMap<Name, ()>,
+    /// What the constants stand for, by number.
+    pub bodies: Items<NamedProcess>,
+    pub system: NamedProcess,
 }

@@ -1,10 +1,12 @@
+//! The names of the lines of a file, and what is wrong with its names and sets.
+
 ghost use Rattle.std.specs.Prelude.{◌≡◌, ◌⊎◌, map, slice_get, IfOk};
 ghost use Rattle.pepa_reader.specs.Trees.{file_node_of};
 ghost use Rattle.pepa_resolver.specs.NamesChecks.{NamesLines, ChecksNames, refused_at};
-ghost use Rattle.pepa_resolver.specs.Finding.{Finds};
+ghost use Rattle.pepa_resolver.specs.Finding.{FindsLeast};
 
-use crate::cause::CheckCause;
-use crate::least::least;
+use crate::lesser::least;
+use crate::refusal::{ResolveCause, ResolveEnd};
 use crate::sets::tau_in_sets;
 use crate::source::Source;
 use crate::tables::line_names;
@@ -20,30 +22,11 @@ const MOST_LINES: usize = 1024;
 
 /// The names of the lines of a file, in order.
 #[derive(Drop)]
-pub struct Names {
+pub(crate) struct Names {
     /// The names of the rate lines.
-    pub rates: IndexMap<Name, ()>,
+    pub(crate) rates: IndexMap<Name, ()>,
     /// The names of the process lines.
-    pub constants: IndexMap<Name, ()>,
-}
-
-/// Why the names of a file were not told.
-#[derive(Clone, Copy, Debug, PartialEq, Eq)]
-pub(crate) enum NamesEnd {
-    /// The file is refused, for this cause, at the token at this index.
-    Refused { cause: CheckCause, at: usize },
-    /// Memory ran out.
-    Memory,
-}
-
-impl From<AllocError> for NamesEnd {
-    ghost use Rattle.pepa_resolver.specs.declared.names.NamesEnd.TheVariants.{Memory};
-
-    ghost from_gives = { λ _ end. end ≡ Memory };
-
-    fn from(_error: AllocError) -> NamesEnd {
-        NamesEnd::Memory
-    }
+    pub(crate) constants: IndexMap<Name, ()>,
 }
 
 /// The indices of the names of rate lines.
@@ -64,40 +47,41 @@ fn process_names_at(alloc: Global, lines: &[ProcessLine]) -> Result<Indices, All
 
 /// The 1,025th of some indices, if there is one.
 fn past_limit(ats: &[usize]) -> Option<usize>
-    ensures { Finds (λ i. slice_get ats.now 1024 ≡ Some i) result }
+    ensures { FindsLeast (λ i. slice_get ats.now 1024 ≡ Some i) result }
 {
     item(ats, MOST_LINES).copied()
 }
 
 /// The least index of a line that is one too many of its kind.
 fn too_many(rates_at: &[usize], constants_at: &[usize]) -> Option<usize>
-    ensures { Finds (λ i. (slice_get rates_at.now 1024 ≡ Some i) ⊎ (slice_get constants_at.now 1024 ≡ Some i)) result }
+    ensures { FindsLeast (λ i. (slice_get rates_at.now 1024 ≡ Some i)
+        ⊎ (slice_get constants_at.now 1024 ≡ Some i)) result }
 {
     least(past_limit(rates_at), past_limit(constants_at))
 }
 
 /// Refuses a file for a cause at an index, if there is one.
-fn refuse(cause: CheckCause, found: Option<usize>) -> Result<(), NamesEnd>
+fn refuse(cause: ResolveCause, found: Option<usize>) -> Result<(), ResolveEnd>
     ensures { result ≡ refused_at cause found }
 {
     match found {
-        Some(at) => Err(NamesEnd::Refused { cause, at }),
+        Some(at) => Err(ResolveEnd::Refused { cause, at }),
         None => Ok(()),
     }
 }
 
 /// The names of the lines of a file, unless it has too many lines or a name has two.
-fn names_of(alloc: Global, tree: &FileTree, source: &Source) -> Result<Names, NamesEnd>
+fn names_of(alloc: Global, tree: &FileTree, source: &Source) -> Result<Names, ResolveEnd>
     ensures { NamesLines source.now.input.now source.now.tokens.now (file_node_of tree.now) result }
 {
     let rates_at = rate_names_at(alloc, tree.rates.as_slice())?;
     let constants_at = process_names_at(alloc, tree.processes.as_slice())?;
     let too_many = too_many(rates_at.as_slice(), constants_at.as_slice());
-    refuse(CheckCause::TooMany, too_many)?;
+    refuse(ResolveCause::TooManyLines, too_many)?;
     let rates = line_names(alloc, source, rates_at.as_slice())?;
     let constants = line_names(alloc, source, constants_at.as_slice())?;
     let twice = least(rates.repeated, constants.repeated);
-    refuse(CheckCause::Twice, twice)?;
+    refuse(ResolveCause::Twice, twice)?;
     Ok(Names {
         rates: rates.names,
         constants: constants.names,
@@ -109,13 +93,13 @@ pub(crate) fn check_names(
     alloc: Global,
     tree: &FileTree,
     source: &Source,
-) -> Result<Names, NamesEnd>
+) -> Result<Names, ResolveEnd>
     ensures { ChecksNames source.now.input.now source.now.tokens.now (file_node_of tree.now) result }
 {
     let names = names_of(alloc, tree, source)?;
     let unknown = unknown_name(source, &names.rates, &names.constants, tree);
-    refuse(CheckCause::UnknownName, unknown)?;
+    refuse(ResolveCause::UnknownName, unknown)?;
     let tau = tau_in_sets(source, tree);
-    refuse(CheckCause::TauInSet, tau)?;
+    refuse(ResolveCause::TauInSet, tau)?;
     Ok(names)
 }

@@ -1,24 +1,28 @@
 //! A file with numbers in place of its names.
 
 ghost use Rattle.std.specs.Prelude.{◌≡◌, map, IfOk, OnOk};
+ghost use Rattle.fault_ends.specs.Answers.{OkOrFault};
 ghost use Rattle.indexmap.specs.IndexMap.{keys};
 ghost use Rattle.pepa_lexer.specs.TokenLists.{IsTokens};
 ghost use Rattle.pepa_reader.specs.Trees.{process_node_of, file_node_of};
-ghost use Rattle.pepa_resolver.specs.Parts.{name_at};
-ghost use Rattle.pepa_resolver.specs.Outcomes.{Good};
-ghost use Rattle.pepa_resolver.specs.Values.{outcome_of};
-ghost use Rattle.pepa_resolver.specs.FirstChecks.{IsChecked};
-ghost use Rattle.pepa_resolver.specs.Numbers.{words_in, actions_of, IsNamedFile};
+ghost use Rattle.pepa_resolver.specs.Sources.{name_in};
+ghost use Rattle.pepa_resolver.specs.Outcomes.{IsBadRateOf};
+ghost use Rattle.pepa_resolver.specs.NamesAnswers.{FineSets};
+ghost use Rattle.pepa_resolver.specs.NamesChecks.{AreNamesOf};
+ghost use Rattle.pepa_resolver.specs.Numbers.{words_in, actions_of};
 ghost use Rattle.pepa_resolver.specs.NumberSteps.{with_name, with_names};
+ghost use Rattle.pepa_resolver.specs.ResolvedFiles.{IsValuedFile};
 
-use crate::checks::NamesAndRates;
+use crate::bad_rates::bad_line;
+use crate::lines::line_values;
 use crate::named::NamedProcess;
+use crate::names::Names;
 use crate::numbers::{Numbers, behind};
 use crate::source::Source;
-use crate::values::{RateValue, Rates};
+use crate::values::Rates;
+use fault_ends::End;
 use indexmap::IndexMap;
 use pepa_model::Name;
-use pepa_rates::Rate;
 use pepa_reader::{FileTree, ProcessTree};
 use sqlite_items::Items;
 use std::alloc::{AllocError, Global};
@@ -40,7 +44,7 @@ fn add_word(
     source: &Source,
     at: usize,
 ) -> Result<(), AllocError>
-    ensures { OnOk result (keys actions.new ≡ with_name (keys actions.old) (name_at source.now.input.now source.now.tokens.now at)) }
+    ensures { OnOk result (keys actions.new ≡ with_name (keys actions.old) (name_in source.now at)) }
 {
     let name = Name::make(alloc, source.name(at))?;
     actions.insert(name, ())?;
@@ -54,7 +58,8 @@ fn add_words(
     source: &Source,
     words: &[usize],
 ) -> Result<(), AllocError>
-    ensures { OnOk result (keys actions.new ≡ with_names (keys actions.old) (map (name_at source.now.input.now source.now.tokens.now) words.now)) }
+    ensures { OnOk result (keys actions.new
+        ≡ with_names (keys actions.old) (map (name_in source.now) words.now)) }
 {
     for word in words {
         add_word(alloc, actions, source, *word)?;
@@ -69,7 +74,9 @@ fn add_words_of(
     source: &Source,
     process: &ProcessTree,
 ) -> Result<(), AllocError>
-    ensures { OnOk result (keys actions.new ≡ with_names (keys actions.old) (map (name_at source.now.input.now source.now.tokens.now) (words_in (process_node_of process.now)))) }
+    ensures { OnOk result (keys actions.new
+        ≡ with_names (keys actions.old)
+        (map (name_in source.now) (words_in (process_node_of process.now)))) }
 {
     match process {
         ProcessTree::Constant(_) => Ok(()),
@@ -104,7 +111,8 @@ fn actions_of(
     source: &Source,
     tree: &FileTree,
 ) -> Result<IndexMap<Name, ()>, AllocError>
-    ensures { IfOk result (λ actions. keys actions ≡ actions_of (name_at source.now.input.now source.now.tokens.now) (file_node_of tree.now)) }
+    ensures { IfOk result (λ actions. keys actions
+        ≡ actions_of (name_in source.now) (file_node_of tree.now)) }
 {
     let mut actions = IndexMap::new(alloc);
     let tau = Name::make(alloc, b"tau")?;
@@ -116,45 +124,43 @@ fn actions_of(
     Ok(actions)
 }
 
-/// Rates as what evaluating their lines came to.
-fn good_values(alloc: Global, rates: &[Rate]) -> Result<Items<RateValue>, AllocError>
-    ensures { IfOk result (λ values. map outcome_of values ≡ map Good rates.now) }
-{
-    let mut values = Items::new(alloc);
-    for rate in rates {
-        values.push(Ok(*rate))?;
-    }
-    Ok(values)
-}
-
-/// A file with numbers in place of its names: a constant's number is the place of its line among the process lines, from 0;
-/// `tau` is action 0, and the others are numbered from 1 by their first places. Sets ascend, and rates are exact.
+/// A file with numbers in place of its names, or the index of the token at which its first refused rate is refused. A constant's
+/// number is the place of its line among the process lines, from 0; `tau` is action 0, and the others are numbered from 1 by their
+/// first places. Sets ascend, and rates are exact. Each rate is evaluated once.
 pub(crate) fn name_processes(
     alloc: Global,
     tree: &FileTree,
     source: &Source,
-    checked: &NamesAndRates,
-) -> Result<NamedFile, AllocError>
+    names: &Names,
+) -> Result<NamedFile, End<usize>>
     requires tokens { IsTokens source.now.input.now source.now.tokens.now }
-    requires checked { IsChecked source.now.input.now source.now.tokens.now (file_node_of tree.now) checked.now }
-    ensures { IfOk result (λ numbered. IsNamedFile source.now.input.now source.now.tokens.now (file_node_of tree.now) checked.now.values numbered) }
+    requires fine { FineSets source.now.input.now source.now.tokens.now (file_node_of tree.now) }
+    requires names { AreNamesOf source.now.input.now source.now.tokens.now
+        (file_node_of tree.now) names.now }
+    ensures { OkOrFault result
+        (IsValuedFile source.now.input.now source.now.tokens.now (file_node_of tree.now))
+        (IsBadRateOf source.now.tokens.now (name_in source.now) (file_node_of tree.now)) }
 {
     let actions = actions_of(alloc, source, tree)?;
-    let values = good_values(alloc, checked.values.as_slice())?;
+    let values = line_values(alloc, *source, &names.rates, tree.rates.as_slice())?;
     let numbers = Numbers {
         rates: Rates {
             source: *source,
-            names: &checked.names.rates,
+            names: &names.rates,
             values: values.as_slice(),
         },
-        constants: &checked.names.constants,
+        constants: &names.constants,
         actions: &actions,
     };
-    let bodies = numbers.bodies(alloc, tree.processes.as_slice())?;
-    let system = numbers.process(alloc, &tree.system)?;
-    Ok(NamedFile {
-        actions,
-        bodies,
-        system,
-    })
+    let mut bad = bad_line(tree.rates.as_slice(), values.as_slice());
+    let bodies = numbers.bodies(alloc, tree.processes.as_slice(), &mut bad)?;
+    let system = numbers.process(alloc, &tree.system, &mut bad)?;
+    match bad {
+        Some(bad) => Err(End::Fault(bad.at)),
+        None => Ok(NamedFile {
+            actions,
+            bodies,
+            system,
+        }),
+    }
 }

@@ -1,15 +1,18 @@
 //! Numbers in place of the names of a process.
 
-ghost use Rattle.std.specs.Prelude.{◌≡◌, ◌+◌, map, IfOk};
+ghost use Rattle.std.specs.Prelude.{◌≡◌, ◌+◌, map, IfOk, OnOk};
 ghost use Rattle.indexmap.specs.IndexMap.{keys};
 ghost use Rattle.pepa_reader.specs.Trees.{rate_node_of, process_node_of, process_line_of};
-ghost use Rattle.pepa_resolver.specs.Parts.{name_at};
+ghost use Rattle.pepa_resolver.specs.Parts.{rates_in};
+ghost use Rattle.pepa_resolver.specs.Sources.{name_in};
 ghost use Rattle.pepa_resolver.specs.Values.{AreSmall, tokens_of};
-ghost use Rattle.pepa_resolver.specs.Named.{NamedPrefix, NamedChoice, NamedCoop, NamedHide, set_of, named};
+ghost use Rattle.pepa_resolver.specs.Named.{NamedPrefix, NamedChoice, NamedCoop, NamedHide, ascending_set, named};
 ghost use Rattle.pepa_resolver.specs.NamedTypes.{named_of};
 ghost use Rattle.pepa_resolver.specs.Numbers.{place_in};
-ghost use Rattle.pepa_resolver.specs.NumberSteps.{naming_by};
+ghost use Rattle.pepa_resolver.specs.NumberSteps.{naming_by, outcome_by, bodies_by};
+ghost use Rattle.pepa_resolver.specs.FirstBad.{earlier_of, refusal_from, earliest_in, line_sites};
 
+use crate::bad_rates::{BadRate, earlier, refused};
 use crate::named::NamedProcess;
 use crate::source::Source;
 use crate::values::Rates;
@@ -22,7 +25,7 @@ use std::alloc::{AllocError, Global};
 
 /// The numbers in ascending order, each once.
 fn ascending(mut numbers: Vec<u32>) -> Items<u32>
-    ensures { result ≡ set_of numbers.items }
+    ensures { result ≡ ascending_set numbers.items }
 {
     numbers.sort_unstable();
     numbers.dedup();
@@ -32,7 +35,7 @@ fn ascending(mut numbers: Vec<u32>) -> Items<u32>
 /// The number of the name at an index: its place in a table, or 0 if it isn't there. More names than a `u32` counts are told as
 /// want of memory.
 fn number_in(source: &Source, table: &IndexMap<Name, ()>, at: usize) -> Result<u32, AllocError>
-    ensures { IfOk result (λ number. number ≡ place_in (keys table.now) (name_at source.now.input.now source.now.tokens.now at)) }
+    ensures { IfOk result (λ number. number ≡ place_in (keys table.now) (name_in source.now at)) }
 {
     let place = source.position(table, at).unwrap_or(0);
     u32::try_from(place).map_err(|_| AllocError)
@@ -40,7 +43,7 @@ fn number_in(source: &Source, table: &IndexMap<Name, ()>, at: usize) -> Result<u
 
 /// An index with the name that stands behind another.
 pub(crate) fn behind(source: &Source, at: usize) -> usize
-    ensures { name_at source.now.input.now source.now.tokens.now result ≡ name_at source.now.input.now source.now.tokens.now (at + 1) }
+    ensures { name_in source.now result ≡ name_in source.now (at + 1) }
 {
     at.saturating_add(1)
 }
@@ -132,20 +135,25 @@ impl Numbers<'_, '_, '_, '_> {
         self.action(behind(&self.rates.source, at))
     }
 
-    /// The value of a rate. In a checked file every rate has one.
-    fn rate(&self, rate: &RateTree) -> Rate
+    /// The value of the rate of the activity that begins at this index. Its refusal is kept where none that begins before it is.
+    fn rate(&self, start: usize, rate: &RateTree, bad: &mut Option<BadRate>) -> Rate
         requires { AreSmall (tokens_of self.now.rates) }
-        ensures { result ≡ (naming_by self.now).rate_of (rate_node_of rate.now) }
+        ensures value { result ≡ (naming_by self.now).rate_of (rate_node_of rate.now) }
+        ensures bad { bad.new ≡ earlier_of bad.old
+            (refusal_from start (outcome_by self.now (rate_node_of rate.now))) }
     {
-        match self.rates.rate(rate) {
-            Ok(rate) => rate,
+        let value = self.rates.rate(rate);
+        let given = match &value {
+            Ok(rate) => *rate,
             Err(_) => Rate::Passive(Frac { num: 1, den: 1 }),
-        }
+        };
+        *bad = earlier(*bad, refused(start, value));
+        given
     }
 
     /// The set of the action types at these indices.
     fn set(&self, alloc: Global, words: &[usize]) -> Result<Items<u32>, AllocError>
-        ensures { IfOk result (λ set. set ≡ set_of (map (naming_by self.now).action words.now)) }
+        ensures { IfOk result (λ set. set ≡ ascending_set (map (naming_by self.now).action words.now)) }
     {
         let mut numbers = Vec::new(alloc);
         for word in words {
@@ -154,14 +162,19 @@ impl Numbers<'_, '_, '_, '_> {
         Ok(ascending(numbers))
     }
 
-    /// A process with numbers in place of its names.
+    /// A process with numbers in place of its names. Of its refused rates and the one that is kept, the one that begins first is
+    /// kept.
     pub(crate) fn process(
         &self,
         alloc: Global,
         process: &ProcessTree,
+        bad: &mut Option<BadRate>,
     ) -> Result<NamedProcess, AllocError>
         requires { AreSmall (tokens_of self.now.rates) }
-        ensures { IfOk result (λ made. named_of made ≡ named (naming_by self.now) (process_node_of process.now)) }
+        ensures made { IfOk result (λ made. named_of made
+            ≡ named (naming_by self.now) (process_node_of process.now)) }
+        ensures bad { OnOk result (bad.new
+            ≡ earliest_in (outcome_by self.now) bad.old (rates_in (process_node_of process.now))) }
     {
         match process {
             ProcessTree::Constant(at) => {
@@ -170,13 +183,13 @@ impl Numbers<'_, '_, '_, '_> {
             }
             ProcessTree::Prefix { at, rate, next } => {
                 let action = self.action_behind(*at)?;
-                let rate = self.rate(rate);
-                let next = self.process(alloc, next)?;
+                let rate = self.rate(*at, rate, bad);
+                let next = self.process(alloc, next, bad)?;
                 performing(alloc, *at, action, rate, next)
             }
             ProcessTree::Choice(left, right) => {
-                let left = self.process(alloc, left)?;
-                let right = self.process(alloc, right)?;
+                let left = self.process(alloc, left, bad)?;
+                let right = self.process(alloc, right, bad)?;
                 chosen(alloc, left, right)
             }
             ProcessTree::Coop {
@@ -186,30 +199,35 @@ impl Numbers<'_, '_, '_, '_> {
                 ..
             } => {
                 let set = self.set(alloc, set.as_slice())?;
-                let left = self.process(alloc, left)?;
-                let right = self.process(alloc, right)?;
+                let left = self.process(alloc, left, bad)?;
+                let right = self.process(alloc, right, bad)?;
                 cooperating(alloc, left, right, set)
             }
             ProcessTree::Hide { inner, set } => {
                 let set = self.set(alloc, set.as_slice())?;
-                let inner = self.process(alloc, inner)?;
+                let inner = self.process(alloc, inner, bad)?;
                 hiding(alloc, inner, set)
             }
         }
     }
 
-    /// The right sides of these lines with numbers in place of their names.
+    /// The right sides of these lines with numbers in place of their names. Of their refused rates and the one that is kept, the
+    /// one that begins first is kept.
     pub(crate) fn bodies(
         &self,
         alloc: Global,
         lines: &[ProcessLine],
+        bad: &mut Option<BadRate>,
     ) -> Result<Items<NamedProcess>, AllocError>
         requires { AreSmall (tokens_of self.now.rates) }
-        ensures { IfOk result (λ bodies. map named_of bodies ≡ map (λ line. named (naming_by self.now) line.body) (map process_line_of lines.now)) }
+        ensures bodies { IfOk result (λ bodies. map named_of bodies
+            ≡ bodies_by (naming_by self.now) (map process_line_of lines.now)) }
+        ensures bad { OnOk result (bad.new
+            ≡ earliest_in (outcome_by self.now) bad.old (line_sites (map process_line_of lines.now))) }
     {
         let mut bodies = Items::new(alloc);
         for line in lines {
-            let body = self.process(alloc, &line.body)?;
+            let body = self.process(alloc, &line.body, bad)?;
             bodies.push(body)?;
         }
         Ok(bodies)

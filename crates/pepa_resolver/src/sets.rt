@@ -1,11 +1,12 @@
+//! `tau` in the sets of a file.
 ghost use Rattle.std.specs.Prelude.{◌≡◌};
 ghost use Rattle.pepa_reader.specs.Trees.{process_node_of, file_node_of};
 ghost use Rattle.pepa_resolver.specs.Parts.{set_words_in};
 ghost use Rattle.pepa_resolver.specs.NamesAnswers.{IsTau};
 ghost use Rattle.pepa_resolver.specs.Faults.{TauAt};
-ghost use Rattle.pepa_resolver.specs.Finding.{Finds, FindsIn};
+ghost use Rattle.pepa_resolver.specs.Finding.{FindsLeast, FindsIn};
 
-use crate::least::least;
+use crate::lesser::least;
 use crate::source::Source;
 use pepa_reader::{FileTree, ProcessTree};
 
@@ -24,7 +25,8 @@ fn tau_among(source: &Source, words: &[usize]) -> Option<usize>
 
 /// The least index of `tau` in a set of a process.
 fn tau_in_process(source: &Source, process: &ProcessTree) -> Option<usize>
-    ensures { FindsIn (IsTau source.now.input.now source.now.tokens.now) (set_words_in (process_node_of process.now)) result }
+    ensures { FindsIn (IsTau source.now.input.now source.now.tokens.now)
+        (set_words_in (process_node_of process.now)) result }
 {
     match process {
         ProcessTree::Constant(_) => None,
@@ -54,7 +56,8 @@ fn tau_in_process(source: &Source, process: &ProcessTree) -> Option<usize>
 
 /// The least index of `tau` in a set.
 pub(crate) fn tau_in_sets(source: &Source, tree: &FileTree) -> Option<usize>
-    ensures { Finds (TauAt (IsTau source.now.input.now source.now.tokens.now) (file_node_of tree.now)) result }
+    ensures { FindsLeast (TauAt (IsTau source.now.input.now source.now.tokens.now)
+        (file_node_of tree.now)) result }
 {
     let mut found = None;
     for line in tree.processes.as_slice() {

@@ -1,11 +1,11 @@
+//! A text and its tokens.
 ghost use Rattle.std.specs.Prelude.{◌≡◌, ◌↔◌, ◌<◌, IsTrue, length, position, nat_eq, bytes_eq, Some, slice_get};
 ghost use Rattle.std.specs.Cmp.Lexicographic.{pointwise, bytes_decides, nat_list_eq_equiv};
 ghost use Rattle.std.specs.Hash as fed;
 ghost use Rattle.std.proofs.Common.{ap};
 ghost use Rattle.indexmap.specs.IndexMap.{keys};
 ghost use Rattle.pepa_lexer.specs.declared.kinds.Token.{Token};
-ghost use Rattle.pepa_reader.specs.Terminals.{text_of};
-ghost use Rattle.pepa_resolver.specs.Parts.{name_at};
+ghost use Rattle.token_grammar.specs.Terminals.{text_of, name_at};
 ghost use Rattle.pepa_resolver.specs.NamesAnswers.{IsTau};
 
 use indexmap::{Equivalent, IndexMap};
@@ -13,6 +13,7 @@ use pepa_lexer::{Kind, Place, Token};
 use pepa_model::Name;
 use sqlite_items::at as item;
 use std::hash::Hash;
+use token_grammar::{Text, bytes_of};
 
 /// A text and its tokens.
 #[derive(Clone, Copy)]
@@ -39,24 +40,16 @@ impl Equivalent<Name> for Spelling<'_> {
     }
 }
 
-/// The bytes of a token.
-fn bytes_of<'i>(input: &'i [u8], token: &Token) -> &'i [u8]
-    ensures { result.now ≡ text_of input.now token.now }
-{
-    let (_, rest) = input.split_at(token.from.min(input.len()));
-    let (bytes, _) = rest.split_at(token.to.saturating_sub(token.from).min(rest.len()));
-    bytes
-}
-
 impl<'t, 'i> Source<'t, 'i> {
     /// The bytes of the token at an index, or none.
     pub(crate) fn name(&self, at: usize) -> &'i [u8]
         ensures { result.now ≡ name_at self.now.input.now self.now.tokens.now at }
     {
-        match item(self.tokens, at) {
-            Some(token) => bytes_of(self.input, token),
-            None => &[],
-        }
+        let text = Text {
+            tokens: self.tokens,
+            input: self.input,
+        };
+        text.name(at)
     }
 
     /// Whether `tau` stands at an index.
@@ -75,14 +68,16 @@ impl<'t, 'i> Source<'t, 'i> {
     /// Where the token at an index stands.
     pub(crate) fn place(&self, at: usize) -> Place
         requires { at < length self.now.tokens.now }
-        ensures { (token : Token) × (slice_get self.now.tokens.now at ≡ Some token) × (result ≡ token.place) }
+        ensures { (token : Token) × (slice_get self.now.tokens.now at ≡ Some token)
+            × (result ≡ token.place) }
     {
         self.tokens[at].place
     }
 
     /// Where the name at an index stands in a table.
     pub(crate) fn position(&self, table: &IndexMap<Name, ()>, at: usize) -> Option<usize>
-        ensures { result ≡ position (bytes_eq (name_at self.now.input.now self.now.tokens.now at)) (keys table.now) }
+        ensures { result ≡ position (bytes_eq (name_at self.now.input.now self.now.tokens.now at))
+            (keys table.now) }
     {
         table.get_index_of(Spelling {
             bytes: self.name(at),

@@ -1,11 +1,12 @@
+//! The names of lines in a table.
 ghost use Rattle.std.specs.Prelude.{◌≡◌, [], ◌∷◌, ◌++◌, map, true, false, None, IfOk, MatchBool};
 ghost use Rattle.std.specs.List.{Contains};
 ghost use Rattle.indexmap.specs.IndexMap.{keys};
-ghost use Rattle.pepa_resolver.specs.Parts.{name_at};
+ghost use Rattle.pepa_resolver.specs.Sources.{name_in};
 ghost use Rattle.pepa_resolver.specs.Faults.{IsRepeated};
-ghost use Rattle.pepa_resolver.specs.Finding.{Finds};
+ghost use Rattle.pepa_resolver.specs.Finding.{FindsLeast};
 
-use crate::least::least;
+use crate::lesser::least;
 use crate::source::Source;
 use indexmap::IndexMap;
 use pepa_model::Name;
@@ -26,8 +27,9 @@ fn add_name(
     at: usize,
 ) -> Result<bool, AllocError>
     ensures { IfOk result (λ added. MatchBool added
-        ((¬ Contains (keys names.old) (name_at source.now.input.now source.now.tokens.now at)) × (keys names.new ≡ keys names.old ++ name_at source.now.input.now source.now.tokens.now at ∷ []))
-        (Contains (keys names.old) (name_at source.now.input.now source.now.tokens.now at) × (keys names.new ≡ keys names.old))) }
+        ((¬ Contains (keys names.old) (name_in source.now at))
+        × (keys names.new ≡ keys names.old ++ name_in source.now at ∷ []))
+        (Contains (keys names.old) (name_in source.now at) × (keys names.new ≡ keys names.old))) }
 {
     let name = Name::make(alloc, source.name(at))?;
     Ok(names.insert(name, ())?.is_none())
@@ -39,8 +41,10 @@ pub(crate) fn line_names(
     source: &Source,
     ats: &[usize],
 ) -> Result<LineNames, AllocError>
-    ensures found { IfOk result (λ lines. Finds (IsRepeated (name_at source.now.input.now source.now.tokens.now) ats.now) lines.repeated) }
-    ensures names { IfOk result (λ lines. lines.repeated ≡ None → keys lines.names ≡ map (name_at source.now.input.now source.now.tokens.now) ats.now) }
+    ensures found { IfOk result
+        (λ lines. FindsLeast (IsRepeated (name_in source.now) ats.now) lines.repeated) }
+    ensures names { IfOk result (λ lines. lines.repeated ≡ None
+        → keys lines.names ≡ map (name_in source.now) ats.now) }
 {
     let mut names = IndexMap::new(alloc);
     let mut repeated = None;

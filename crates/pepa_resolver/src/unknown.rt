@@ -1,12 +1,14 @@
+//! Names that have no line.
 ghost use Rattle.std.specs.Prelude.{◌≡◌, [], ◌∷◌, map, take};
 ghost use Rattle.std.specs.List.{Contains};
 ghost use Rattle.indexmap.specs.IndexMap.{keys};
 ghost use Rattle.pepa_reader.specs.Trees.{rate_node_of, process_node_of, rate_line_of, file_node_of};
-ghost use Rattle.pepa_resolver.specs.Parts.{name_at, names_in, rate_ats, process_ats, processes_of};
+ghost use Rattle.pepa_resolver.specs.Parts.{names_in, rate_ats, process_ats, processes_of};
+ghost use Rattle.pepa_resolver.specs.Sources.{name_in};
 ghost use Rattle.pepa_resolver.specs.Faults.{IsEarlyName, UnknownAt};
-ghost use Rattle.pepa_resolver.specs.Finding.{Finds, FindsIn, IsUnlisted, IsUnlistedIn, StandsInSome};
+ghost use Rattle.pepa_resolver.specs.Finding.{FindsLeast, FindsIn, IsUnlisted, IsUnlistedIn, StandsInSome};
 
-use crate::least::least;
+use crate::lesser::least;
 use crate::source::Source;
 use indexmap::IndexMap;
 use pepa_model::Name;
@@ -14,7 +16,7 @@ use pepa_reader::{FileTree, ProcessTree, RateLine, RateTree};
 
 /// The index, unless its name is one of the first so many of a table.
 fn unlisted(source: &Source, table: &IndexMap<Name, ()>, above: usize, at: usize) -> Option<usize>
-    ensures { FindsIn (IsUnlisted (name_at source.now.input.now source.now.tokens.now) (take above (keys table.now))) (at ∷ []) result }
+    ensures { FindsIn (IsUnlisted (name_in source.now) (take above (keys table.now))) (at ∷ []) result }
 {
     match source.position(table, at) {
         Some(place) if place < above => None,
@@ -29,7 +31,8 @@ fn unlisted_in_rate(
     above: usize,
     rate: &RateTree,
 ) -> Option<usize>
-    ensures { FindsIn (IsUnlisted (name_at source.now.input.now source.now.tokens.now) (take above (keys table.now))) (names_in (rate_node_of rate.now)) result }
+    ensures { FindsIn (IsUnlisted (name_in source.now) (take above (keys table.now)))
+        (names_in (rate_node_of rate.now)) result }
 {
     match rate {
         RateTree::Name(at) => unlisted(source, table, above, *at),
@@ -49,7 +52,8 @@ fn unlisted_in_process(
     constants: &IndexMap<Name, ()>,
     process: &ProcessTree,
 ) -> Option<usize>
-    ensures { Finds (IsUnlistedIn (name_at source.now.input.now source.now.tokens.now) (keys constants.now) (keys rates.now) (process_node_of process.now)) result }
+    ensures { FindsLeast (IsUnlistedIn (name_in source.now) (keys constants.now) (keys rates.now)
+        (process_node_of process.now)) result }
 {
     match process {
         ProcessTree::Constant(at) => unlisted(source, constants, constants.len(), *at),
@@ -71,8 +75,8 @@ fn unlisted_in_process(
 
 /// The least index in the rate lines of a name that has no line above.
 fn early_name(source: &Source, rates: &IndexMap<Name, ()>, lines: &[RateLine]) -> Option<usize>
-    requires { keys rates.now ≡ map (name_at source.now.input.now source.now.tokens.now) (rate_ats (map rate_line_of lines.now)) }
-    ensures { Finds (IsEarlyName (name_at source.now.input.now source.now.tokens.now) (map rate_line_of lines.now)) result }
+    requires { keys rates.now ≡ map (name_in source.now) (rate_ats (map rate_line_of lines.now)) }
+    ensures { FindsLeast (IsEarlyName (name_in source.now) (map rate_line_of lines.now)) result }
 {
     let mut found = None;
     for (above, line) in lines.iter().enumerate() {
@@ -89,7 +93,9 @@ fn unlisted_in_processes(
     constants: &IndexMap<Name, ()>,
     tree: &FileTree,
 ) -> Option<usize>
-    ensures { Finds (StandsInSome (IsUnlistedIn (name_at source.now.input.now source.now.tokens.now) (keys constants.now) (keys rates.now)) (processes_of (file_node_of tree.now))) result }
+    ensures { FindsLeast (StandsInSome
+        (IsUnlistedIn (name_in source.now) (keys constants.now) (keys rates.now))
+        (processes_of (file_node_of tree.now))) result }
 {
     let mut found = None;
     for line in tree.processes.as_slice() {
@@ -107,9 +113,11 @@ pub(crate) fn unknown_name(
     constants: &IndexMap<Name, ()>,
     tree: &FileTree,
 ) -> Option<usize>
-    requires rates_are { keys rates.now ≡ map (name_at source.now.input.now source.now.tokens.now) (rate_ats (file_node_of tree.now).rates) }
-    requires constants_are { keys constants.now ≡ map (name_at source.now.input.now source.now.tokens.now) (process_ats (file_node_of tree.now).processes) }
-    ensures { Finds (UnknownAt (name_at source.now.input.now source.now.tokens.now) (file_node_of tree.now)) result }
+    requires rates_are { keys rates.now
+        ≡ map (name_in source.now) (rate_ats (file_node_of tree.now).rates) }
+    requires constants_are { keys constants.now
+        ≡ map (name_in source.now) (process_ats (file_node_of tree.now).processes) }
+    ensures { FindsLeast (UnknownAt (name_in source.now) (file_node_of tree.now)) result }
 {
     let early = early_name(source, rates, tree.rates.as_slice());
     let late = unlisted_in_processes(source, rates, constants, tree);

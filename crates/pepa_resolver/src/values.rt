@@ -6,11 +6,10 @@ ghost use Rattle.std.specs.Hash as fed;
 ghost use Rattle.std.proofs.Common.{ap};
 ghost use Rattle.indexmap.specs.IndexMap.{keys};
 ghost use Rattle.pepa_rates.specs.Fraction.{reduced};
-ghost use Rattle.pepa_reader.specs.Terminals.{text_of};
+ghost use Rattle.token_grammar.specs.Terminals.{text_of, bytes_of, name_at};
 ghost use Rattle.pepa_reader.specs.Trees.{rate_node_of};
-ghost use Rattle.pepa_resolver.specs.Parts.{bytes_of, name_at};
-ghost use Rattle.pepa_resolver.specs.Outcomes.{Good, fine_at, number_value, kind_value, sign_value, op_value, combined, inner_name, sum_outcome, active_outcome, weight_outcome, rate_outcome};
-ghost use Rattle.pepa_resolver.specs.Values.{outcome_of, line_value, named_of, tokens_of, AreSmall};
+ghost use Rattle.pepa_resolver.specs.Outcomes.{Good, fine_at, number_value, kind_value, sign_value, op_value, combined_outcome, inner_name, sum_outcome, active_outcome, weight_outcome, rate_outcome};
+ghost use Rattle.pepa_resolver.specs.Values.{outcome_of, line_value, named_outcome, tokens_of, AreSmall};
 
 use crate::source::Source;
 use indexmap::IndexMap;
@@ -128,7 +127,7 @@ impl Rates<'_, '_, '_, '_> {
 
     /// The value of the rate that the name at the index has.
     fn named(&self, at: usize) -> RateValue
-        ensures { outcome_of result ≡ named_of self.now at }
+        ensures { outcome_of result ≡ named_outcome self.now at }
     {
         match self.source.position(self.names, at) {
             Some(line) => line_value(self.values, line),
@@ -138,7 +137,7 @@ impl Rates<'_, '_, '_, '_> {
 
     /// The value of a name beside an operator or in brackets, where a passive rate is refused.
     fn inner_name(&self, at: usize) -> Amount
-        ensures { outcome_of result ≡ inner_name at (named_of self.now at) }
+        ensures { outcome_of result ≡ inner_name at (named_outcome self.now at) }
     {
         match self.named(at) {
             Ok(rate) => active(at, &rate),
@@ -161,7 +160,8 @@ impl Rates<'_, '_, '_, '_> {
 
     /// Both sides of the operator at the index together. The left one is judged first.
     fn combined(&self, at: usize, left: Amount, right: Amount) -> Amount
-        ensures { outcome_of result ≡ combined (tokens_of self.now) at (outcome_of left) (outcome_of right) }
+        ensures { outcome_of result
+            ≡ combined_outcome (tokens_of self.now) at (outcome_of left) (outcome_of right) }
     {
         match (left, right) {
             (Err(Unvalued::BadAt(i)), _) | (_, Err(Unvalued::BadAt(i))) => Err(Unvalued::BadAt(i)),
@@ -173,7 +173,8 @@ impl Rates<'_, '_, '_, '_> {
     /// The value of a sum, a product or a part of one.
     fn sum(&self, tree: &RateTree) -> Amount
         requires { AreSmall (tokens_of self.now) }
-        ensures { outcome_of result ≡ sum_outcome (tokens_of self.now) (named_of self.now) (rate_node_of tree.now) }
+        ensures { outcome_of result
+            ≡ sum_outcome (tokens_of self.now) (named_outcome self.now) (rate_node_of tree.now) }
     {
         match tree {
             RateTree::Number(at) => self.number(*at),
@@ -189,7 +190,8 @@ impl Rates<'_, '_, '_, '_> {
     /// The passive rate whose weight is the number at the index.
     fn weight(&self, at: usize) -> RateValue
         requires { AreSmall (tokens_of self.now) }
-        ensures { outcome_of result ≡ weight_outcome at (number_value (slice_get (tokens_of self.now) at)) }
+        ensures { outcome_of result
+            ≡ weight_outcome at (number_value (slice_get (tokens_of self.now) at)) }
     {
         let weight = self.number(at)?;
         if weight.den == 1 {
@@ -202,7 +204,8 @@ impl Rates<'_, '_, '_, '_> {
     /// The value of a whole rate.
     pub(crate) fn rate(&self, tree: &RateTree) -> RateValue
         requires { AreSmall (tokens_of self.now) }
-        ensures { outcome_of result ≡ rate_outcome (tokens_of self.now) (named_of self.now) (rate_node_of tree.now) }
+        ensures { outcome_of result
+            ≡ rate_outcome (tokens_of self.now) (named_outcome self.now) (rate_node_of tree.now) }
     {
         match tree {
             RateTree::Name(at) => self.named(*at),

@@ -6,9 +6,9 @@ use Rattle.std.proofs.lemmas.Option.{get_or_from_slice_get}
 use Rattle.pepa_model.specs.PepaModel.{PepaModel}
 use Rattle.pepa_model.specs.Terms.{TermNode, LeafNode, CoopNode, HideNode, IsNodeOf}
 use Rattle.pepa_model.specs.declared.term.Activity.{Activity}
-use Rattle.pepa_steps.specs.Moves.{carry, hidden}
+use Rattle.pepa_steps.specs.Moves.{carry, under_hiding}
 use Rattle.pepa_steps.specs.PartAnswers.{StepNode}
-use Rattle.pepa_steps.specs.Traces.{activity_node, Tells, beside, Traces}
+use Rattle.pepa_steps.specs.Traces.{activity_node, IsTargetOf, steps_side_by_side, Traces}
 use Rattle.pepa_steps.specs.Sources.{joined_source_in, source_by, source_in}
 use Rattle.pepa_steps.specs.declared.entries.Origin.{Origin}
 use Rattle.pepa_steps.specs.declared.entries.Origin.TheVariants as origin
@@ -56,12 +56,12 @@ module _ (m : PepaModel) (marks : List Mark) (origins : List Origin) (fits : len
   Leads x y set z Lost = ⊥
 
   module _ (x y : TermNode) (set l r : ℕ) (us vs : List StepNode) (of_x : Traces m marks origins x l us) (of_y : Traces m marks origins y r vs) where
-    of_origin : (o : Origin) (z : TermNode) → Tells x y set us vs o z → Leads x y set z (joined_source_in l r (Some o))
+    of_origin : (o : Origin) (z : TermNode) → IsTargetOf x y set us vs o z → Leads x y set z (joined_source_in l r (Some o))
     of_origin (origin.Left i) z (u, at, is) = (u, record { steps = us; traced = of_x; here = at }, is)
     of_origin (origin.Right j) z (v, at, is) = (v, record { steps = vs; traced = of_y; here = at }, is)
     of_origin (origin.Both i j) z (u, v, at, at_too, is) = (u, v, record { steps = us; traced = of_x; here = at }, record { steps = vs; traced = of_y; here = at_too }, is)
 
-    beside_leads : (n index : ℕ) (step : StepNode) → n ≡ length us → slice_get (beside x y set us vs) index ≡ Some step
+    beside_leads : (n index : ℕ) (step : StepNode) → n ≡ length us → slice_get (steps_side_by_side x y set us vs) index ≡ Some step
         → (b : Bool) → nat_lt index n ≡ b → Leads x y set step.target (if b then Left l index else Right r (index - n))
     beside_leads n index step count at true lt =
         let below : index < length (map (carry (λ a. CoopNode a y set)) us) = omega (arith, ltb-true index n lt, count, length-map us (carry {X = TermNode} {Y = TermNode} (λ a. CoopNode a y set))) in
@@ -136,12 +136,12 @@ module _ (m : PepaModel) (marks : List Mark) (origins : List Origin) (fits : len
     pub inner_ready : HasStep node at index → HasStep x at index
     inner_ready (steps, traced, below) =
         let (us, of_x, whole) = subst (λ (z : TermNode). Traces m marks origins z at steps) is traced in
-        (us, of_x, omega (arith, below, ap length whole, length-map us (hidden {X = TermNode} {Y = TermNode} (λ a. HideNode a set) (slice_index_or m.sets set []))))
+        (us, of_x, omega (arith, below, ap length whole, length-map us (under_hiding {X = TermNode} {Y = TermNode} (λ a. HideNode a set) (slice_index_or m.sets set []))))
 
     pub inner_aimed : (moved made : TermNode) → Aims x at index moved → made ≡ HideNode moved set → Aims node at index made
     inner_aimed moved made aims made_is steps traced step here =
         let (us, of_x, whole) = subst (λ (z : TermNode). Traces m marks origins z at steps) is traced in
-        let found = get_unmap (hidden (λ a. HideNode a set) (slice_index_or m.sets set [])) us index step (subst (λ (ws : List StepNode). slice_get ws index ≡ Some step) whole here) in
+        let found = get_unmap (under_hiding (λ a. HideNode a set) (slice_index_or m.sets set [])) us index step (subst (λ (ws : List StepNode). slice_get ws index ≡ Some step) whole here) in
         made_is ∙ ap (λ (z : TermNode). HideNode z set) (aims us of_x found.0 found.1) ∙ sym (ap (λ (v : StepNode). v.target) found.2)
 
   module _ (node : TermNode) (n at index : ℕ) (activities : List Activity) (is : node ≡ LeafNode n) (stored : slice_get m.activities n ≡ Some activities) where

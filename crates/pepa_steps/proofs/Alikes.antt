@@ -6,7 +6,7 @@ use Rattle.pepa_rates.specs.declared.rate.Rate.{Rate}
 use Rattle.pepa_rates.specs.Share.{share_of}
 use Rattle.pepa_model.specs.Derivation.{Among}
 use Rattle.pepa_steps.specs.Alike.{Alike}
-use Rattle.pepa_steps.specs.Moves.{Move, has, carry, joined, joined_to, cooperation, hidden}
+use Rattle.pepa_steps.specs.Moves.{Move, has, carry, joint_of, joints_with, cooperation, under_hiding}
 
 -- ---- lists whose elements are related one by one
 
@@ -97,12 +97,12 @@ module _ {X Y Z X' Y' Z' : Type 0} (R : X → X' → Type 0) (S : Y → Y' → T
       (zip_map (λ v v'. Alike S v v' × (not (has set v.action) ≡ true)) (Alike T) (carry right) (carry right')
       (λ u v a. record { action = a.0.action; signals = a.0.signals; rate = a.0.rate; target = on_right _ _ a.0.target }) _ _
       (zip_filter (Alike S) (λ u. not (has set u.action)) (λ u. not (has set u.action)) (λ u v a. ap (λ (n : ℕ). not (has set n)) a.action) vs vs' k)))
-      (zip_flat_map (λ u u'. Alike R u u' × (has set u.action ≡ true)) (Alike T) (joined_to both ra rb vs) (joined_to both' ra' rb' vs') both_alike _ _
+      (zip_flat_map (λ u u'. Alike R u u' × (has set u.action ≡ true)) (Alike T) (joints_with both ra rb vs) (joints_with both' ra' rb' vs') both_alike _ _
       (zip_filter (Alike R) (λ u. has set u.action) (λ u. has set u.action) (λ u v a. ap (has set) a.action) us us' h))
     where
-      both_alike : (u : Move X) (u' : Move X') → Alike R u u' × (has set u.action ≡ true) → AllZip (Alike T) (joined_to both ra rb vs u) (joined_to both' ra' rb' vs' u')
+      both_alike : (u : Move X) (u' : Move X') → Alike R u u' × (has set u.action ≡ true) → AllZip (Alike T) (joints_with both ra rb vs u) (joints_with both' ra' rb' vs' u')
       both_alike u u' (a, within) =
-          zip_map (λ v v'. Alike S v v' × ((u.action == v.action) ≡ true)) (Alike T) (joined both (ra u.action) (rb u.action) u) (joined both' (ra' u'.action) (rb' u'.action) u')
+          zip_map (λ v v'. Alike S v v' × ((u.action == v.action) ≡ true)) (Alike T) (joint_of both (ra u.action) (rb u.action) u) (joint_of both' (ra' u'.action) (rb' u'.action) u')
           (λ v v' b. record {
             action = a.action;
             signals = ap (λ (n : ℕ). bit_or n v.signals) a.signals ∙ ap (λ (n : ℕ). bit_or u'.signals n) b.0.signals;
@@ -113,9 +113,9 @@ module _ {X Y Z X' Y' Z' : Type 0} (R : X → X' → Type 0) (S : Y → Y' → T
           (zip_filter (Alike S) (λ v. u.action == v.action) (λ v. u'.action == v.action) (λ v v' b. ap (λ (n : ℕ). n == v.action) a.action ∙ ap (λ (n : ℕ). u'.action == n) b.action) vs vs' k)
 
 module _ {X Y X' Y' : Type 0} (R : X → X' → Type 0) (T : Y → Y' → Type 0) (under : X → Y) (under' : X' → Y') (on_under : (x : X) (x' : X') → R x x' → T (under x) (under' x')) (set : List ℕ) where
-  pub hidden_alike : (us : List (Move X)) (us' : List (Move X')) → AllZip (Alike R) us us' → AllZip (Alike T) (map (hidden under set) us) (map (hidden under' set) us')
+  pub hidden_alike : (us : List (Move X)) (us' : List (Move X')) → AllZip (Alike R) us us' → AllZip (Alike T) (map (under_hiding under set) us) (map (under_hiding under' set) us')
   hidden_alike us us' h =
-      zip_map (Alike R) (Alike T) (hidden under set) (hidden under' set)
+      zip_map (Alike R) (Alike T) (under_hiding under set) (under_hiding under' set)
       (λ u u' a. record {
         action = ap (λ (n : ℕ). if has set n then 0 else n) a.action;
         signals = a.signals;

@@ -12,7 +12,7 @@ use Rattle.pepa_rates.proofs.Sums.{sum_of-positive, sum_of-assoc}
 use Rattle.pepa_rates.proofs.Shares.{fraction_share, share-whole}
 use Rattle.pepa_rates.proofs.Lesser.{least-keeps}
 use Rattle.pepa_model.specs.Apparent.{Apparent, NoRate, Rated, Undefined, together, apparent_of_sum, IsFine}
-use Rattle.pepa_steps.specs.OpenStates.{jointly, rate_of}
+use Rattle.pepa_steps.specs.OpenStates.{least_if_both, rate_of}
 use Rattle.pepa_steps.proofs.ShareSums.{first-sum, second-sum, least-positive}
 
 -- ---- what holds of apparent rates
@@ -89,14 +89,14 @@ together-lowest (Rated (Passive p)) (Rated (Active q)) h k = tt
 together-lowest (Rated r) Undefined h k = tt
 together-lowest Undefined y h k = tt
 
-pub jointly-lowest : (x y : Apparent) → IsLowestRate x → IsLowestRate y → IsLowestRate (jointly x y)
-jointly-lowest NoRate y h k = tt
-jointly-lowest (Rated r) NoRate h k = tt
-jointly-lowest (Rated r) (Rated s) h k = least-keeps (λ x. IsLowest (fraction_of x)) r s h k
-jointly-lowest (Rated r) Undefined h k = tt
-jointly-lowest Undefined NoRate h k = tt
-jointly-lowest Undefined (Rated s) h k = tt
-jointly-lowest Undefined Undefined h k = tt
+pub least_if_both-lowest : (x y : Apparent) → IsLowestRate x → IsLowestRate y → IsLowestRate (least_if_both x y)
+least_if_both-lowest NoRate y h k = tt
+least_if_both-lowest (Rated r) NoRate h k = tt
+least_if_both-lowest (Rated r) (Rated s) h k = least-keeps (λ x. IsLowest (fraction_of x)) r s h k
+least_if_both-lowest (Rated r) Undefined h k = tt
+least_if_both-lowest Undefined NoRate h k = tt
+least_if_both-lowest Undefined (Rated s) h k = tt
+least_if_both-lowest Undefined Undefined h k = tt
 
 pub together-none : (x : Apparent) → together x NoRate ≡ x
 together-none NoRate = refl
@@ -212,7 +212,7 @@ in_all-none ra NoRate = refl
 in_all-none ra (Rated rb) = refl
 in_all-none ra Undefined = refl
 
-in_all-whole : (x y : Apparent) → IsProperRate x → IsProperRate y → in_all (rate_of x) y x ≡ jointly x y
+in_all-whole : (x y : Apparent) → IsProperRate x → IsProperRate y → in_all (rate_of x) y x ≡ least_if_both x y
 in_all-whole NoRate NoRate h k = refl
 in_all-whole NoRate (Rated s) h k = refl
 in_all-whole NoRate Undefined h k = absurd k
@@ -224,6 +224,6 @@ in_all-whole Undefined y h k = absurd h
 -- outside the set each side's sum stays, and inside it the shares add up to the lesser rate
 pub both_sides : (b : Bool) (x y : Apparent) → IsProperRate x → IsProperRate y
     → together (together (if not b then x else NoRate) (if not b then y else NoRate)) (in_all (rate_of x) y (if b then x else NoRate))
-    ≡ (if b then jointly x y else together x y)
+    ≡ (if b then least_if_both x y else together x y)
 both_sides true x y h k = in_all-whole x y h k
 both_sides false x y h k = ap (together (together x y)) (in_all-none (rate_of x) y) ∙ together-none (together x y)

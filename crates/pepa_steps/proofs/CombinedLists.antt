@@ -15,20 +15,21 @@ use Rattle.pepa_rates.specs.Share.{SameKind, share_of}
 use Rattle.pepa_rates.specs.Fraction.{InRange}
 use Rattle.pepa_rates.specs.Sum.{fraction_of}
 use Rattle.pepa_model.specs.Apparent.{NoRate, Rated}
-use Rattle.pepa_steps.specs.Moves.{Move, has, carry, alone, joined, joined_to, joint}
+use Rattle.pepa_steps.specs.Moves.{Move, has, carry, outside_set, joint_of, joints_with, joint_moves}
 use Rattle.pepa_steps.specs.OpenStates.{rate_of}
 use Rattle.pepa_steps.specs.ApparentAnswers.{apparent_of}
 use Rattle.pepa_steps.specs.ActionRates.{rate_in}
 use Rattle.pepa_steps.specs.StateVerdict.{OfLength, OfDerivation}
 use Rattle.pepa_steps.specs.JointSteps.{places_from, pair_count}
-use Rattle.pepa_steps.specs.Combined.{entry_of, target_of, numbered, rate_at, combined, IsRatedBy, AreRatedFor, AreInRangeBy, AreMovesInRange, Adds, HasAdded, AddsJoint, IsJointEntry, AnswersCombined}
+use Rattle.pepa_steps.specs.Combined.{entry_of, target_of, numbered, rate_at, combined, IsRatedBy, AreRatedFor, AreInRangeBy, AreMovesInRange, AddsEntries, HasAdded, AddsJoint, IsJointEntry, AnswersCombined}
 use Rattle.pepa_steps.specs.EndNames.{joint_end}
 use Rattle.pepa_steps.specs.declared.entries.Entry.{Entry}
 use Rattle.pepa_steps.specs.declared.entries.Origin.{Origin}
 use Rattle.pepa_steps.specs.declared.entries.Origin.TheVariants.{Left, Right, Both}
 use Rattle.pepa_steps.specs.declared.entries.Derived.{Derived}
-use Rattle.pepa_steps.specs.declared.combining.JointEnd.{JointEnd}
-use Rattle.pepa_steps.specs.declared.combining.JointEnd.TheVariants as ends
+use Rattle.pepa_rates.specs.declared.frac.RateOverflow.{RateOverflow}
+use Rattle.fault_ends.specs.declared.end.End.{End}
+use Rattle.fault_ends.specs.declared.end.End.TheVariants as ends
 use Rattle.pepa_steps.specs.declared.transitions.StepFault.TheVariants as name
 use Rattle.pepa_steps.specs.declared.transitions.StepsEnd.TheVariants.{Fault}
 use Rattle.pepa_steps.proofs.Faults.{all_append, all_front}
@@ -38,37 +39,37 @@ use Rattle.pepa_steps.proofs.TakenEntries.{at_place, numbered_length, filter_kee
 -- ---- lists that are appended, with where each element comes from
 
 module _ (a b : List Entry) (o p : List Origin) where
-  pub adds_same : (us vs : List (Move Origin)) → us ≡ vs → Adds a b o p us → Adds a b o p vs
+  pub adds_same : (us vs : List (Move Origin)) → us ≡ vs → AddsEntries a b o p us → AddsEntries a b o p vs
   adds_same us vs same h = record { entries = h.entries ∙ ap (λ l. a ++ map entry_of l) same; origins = h.origins ∙ ap (λ l. o ++ map target_of l) same }
 
   -- one more
-  pub adds_more : (us vs : List (Move Origin)) (m : Move Origin) (b' : List Entry) (p' : List Origin) → Adds a b o p us → b' ≡ b ++ entry_of m ∷ [] → p' ≡ p ++ target_of m ∷ [] → vs ≡ us ++ m ∷ [] → Adds a b' o p' vs
+  pub adds_more : (us vs : List (Move Origin)) (m : Move Origin) (b' : List Entry) (p' : List Origin) → AddsEntries a b o p us → b' ≡ b ++ entry_of m ∷ [] → p' ≡ p ++ target_of m ∷ [] → vs ≡ us ++ m ∷ [] → AddsEntries a b' o p' vs
   adds_more us vs m b' p' h push push_too is = record {
     entries = push ∙ ap (λ l. l ++ entry_of m ∷ []) h.entries ∙ append_assoc a (map entry_of us) (entry_of m ∷ []) ∙ ap (λ l. a ++ l) (sym (map-append entry_of us (m ∷ []))) ∙ ap (λ l. a ++ map entry_of l) (sym is);
     origins = push_too ∙ ap (λ l. l ++ target_of m ∷ []) h.origins ∙ append_assoc o (map target_of us) (target_of m ∷ []) ∙ ap (λ l. o ++ l) (sym (map-append target_of us (m ∷ []))) ∙ ap (λ l. o ++ map target_of l) (sym is);
   }
 
   -- and more
-  pub adds_all : (us vs ws : List (Move Origin)) (b' : List Entry) (p' : List Origin) → Adds a b o p us → Adds b b' p p' vs → ws ≡ us ++ vs → Adds a b' o p' ws
+  pub adds_all : (us vs ws : List (Move Origin)) (b' : List Entry) (p' : List Origin) → AddsEntries a b o p us → AddsEntries b b' p p' vs → ws ≡ us ++ vs → AddsEntries a b' o p' ws
   adds_all us vs ws b' p' h k is = record {
     entries = k.entries ∙ ap (λ l. l ++ map entry_of vs) h.entries ∙ append_assoc a (map entry_of us) (map entry_of vs) ∙ ap (λ l. a ++ l) (sym (map-append entry_of us vs)) ∙ ap (λ l. a ++ map entry_of l) (sym is);
     origins = k.origins ∙ ap (λ l. l ++ map target_of vs) h.origins ∙ append_assoc o (map target_of us) (map target_of vs) ∙ ap (λ l. o ++ l) (sym (map-append target_of us vs)) ∙ ap (λ l. o ++ map target_of l) (sym is);
   }
 
-pub adds_none : (a b : List Entry) (o p : List Origin) → a ≡ b → o ≡ p → Adds a b o p []
+pub adds_none : (a b : List Entry) (o p : List Origin) → a ≡ b → o ≡ p → AddsEntries a b o p []
 adds_none a b o p e f = record { entries = sym e ∙ sym (append-nil a); origins = sym f ∙ sym (append-nil o) }
 
 -- ---- one side alone
 
 module _ (types : List ℕ) (us us' : List (Move ℕ)) (u : Move ℕ) (grows : us' ≡ us ++ u ∷ []) where
-  pub alone_one : (f : ℕ → Origin) → has types u.action ≡ false → map (carry f) (alone types us') ≡ map (carry f) (alone types us) ++ carry f u ∷ []
+  pub alone_one : (f : ℕ → Origin) → has types u.action ≡ false → map (carry f) (outside_set types us') ≡ map (carry f) (outside_set types us) ++ carry f u ∷ []
   alone_one f h =
-      ap (λ l. map (carry f) (alone types l)) grows
+      ap (λ l. map (carry f) (outside_set types l)) grows
       ∙ ap (map (carry f)) (filter_keeps (λ (v : Move ℕ). not (has types v.action)) us u (ap not h))
-      ∙ map-append (carry f) (alone types us) (u ∷ [])
+      ∙ map-append (carry f) (outside_set types us) (u ∷ [])
 
-  pub alone_none : (f : ℕ → Origin) → has types u.action ≡ true → map (carry f) (alone types us) ≡ map (carry f) (alone types us')
-  alone_none f h = sym (ap (λ l. map (carry f) (alone types l)) grows ∙ ap (map (carry f)) (filter_skips (λ (v : Move ℕ). not (has types v.action)) us u (ap not h)))
+  pub alone_none : (f : ℕ → Origin) → has types u.action ≡ true → map (carry f) (outside_set types us) ≡ map (carry f) (outside_set types us')
+  alone_none f h = sym (ap (λ l. map (carry f) (outside_set types l)) grows ∙ ap (map (carry f)) (filter_skips (λ (v : Move ℕ). not (has types v.action)) us u (ap not h)))
 
 -- ---- both together: one entry of the left side, with the right side's at some indices
 
@@ -146,20 +147,20 @@ right_kind rates action k es other indices rate is lt at rated found =
     kind_of rates other action rate same found (rated other (get_or indices k 0, below, sym at) same)
 
 abbrev pub joint_at : Rate → Rate → Move ℕ → List (Move ℕ) → ℕ → Move Origin
-joint_at ra rb u vs i = joined Both ra rb u (get_or vs i u)
+joint_at ra rb u vs i = joint_of Both ra rb u (get_or vs i u)
 
 -- what is made of the entry at an index
 pub made_at : (place : ℕ) (entry : Entry) (ra rb : Rate) (es : List Entry) (i : ℕ) (other made : Entry) → i < length es → other ≡ get_or es i other → IsJointEntry entry ra other rb (Ok made)
     → made ≡ entry_of (joint_at ra rb (at_place place entry) (numbered 0 es) i)
-made_at place entry ra rb es i other made lt at is = is.0 ∙ ap (λ (v : Move ℕ). entry_of (joined Both ra rb (at_place place entry) v)) (entry_at es i other (at_place place entry) lt at)
+made_at place entry ra rb es i other made lt at is = is.0 ∙ ap (λ (v : Move ℕ). entry_of (joint_of Both ra rb (at_place place entry) v)) (entry_at es i other (at_place place entry) lt at)
 
 pub origin_at : (place : ℕ) (entry : Entry) (ra rb : Rate) (es : List Entry) (i : ℕ) (other : Entry) → i < length es → other ≡ get_or es i other
     → Both place i ≡ target_of (joint_at ra rb (at_place place entry) (numbered 0 es) i)
-origin_at place entry ra rb es i other lt at = ap (λ (v : Move ℕ). target_of (joined Both ra rb (at_place place entry) v)) (entry_at es i other (at_place place entry) lt at)
+origin_at place entry ra rb es i other lt at = ap (λ (v : Move ℕ). target_of (joint_of Both ra rb (at_place place entry) v)) (entry_at es i other (at_place place entry) lt at)
 
 pub range_at : (place : ℕ) (entry : Entry) (ra rb : Rate) (es : List Entry) (i : ℕ) (other : Entry) → i < length es → other ≡ get_or es i other
     → share_of entry.rate ra other.rate rb ≡ (joint_at ra rb (at_place place entry) (numbered 0 es) i).rate
-range_at place entry ra rb es i other lt at = ap (λ (v : Move ℕ). (joined Both ra rb (at_place place entry) v).rate) (entry_at es i other (at_place place entry) lt at)
+range_at place entry ra rb es i other lt at = ap (λ (v : Move ℕ). (joint_of Both ra rb (at_place place entry) v).rate) (entry_at es i other (at_place place entry) lt at)
 
 pub range_of : (place : ℕ) (entry : Entry) (ra rb : Rate) (es : List Entry) (i : ℕ) (other : Entry) → i < length es → other ≡ get_or es i other
     → InRange (fraction_of (share_of entry.rate ra other.rate rb)) → InRange (fraction_of (joint_at ra rb (at_place place entry) (numbered 0 es) i).rate)
@@ -180,27 +181,27 @@ adds_joint f old before new indices k made origin lt is is_too h push push_too f
 module _ (left right : List (ℕ × Rate)) (u : Move ℕ) (vs : List (Move ℕ)) (ra rb : Rate) (indices : List ℕ)
     (left_found : Some ra ≡ lookup (is_at (nat_cmp u.action)) left) (right_found : Some rb ≡ lookup (is_at (nat_cmp u.action)) right)
     (is : indices ≡ places_from 0 u.action vs) where
-  all_joined : map (joint_at ra rb u vs) indices ≡ joined_to Both (rate_at left) (rate_at right) vs u
+  all_joined : map (joint_at ra rb u vs) indices ≡ joints_with Both (rate_at left) (rate_at right) vs u
   all_joined =
       ap (map (joint_at ra rb u vs)) is
-      ∙ at_places (joined Both ra rb u) u u.action vs
-      ∙ ap (λ o. map (joined Both (rate_of (apparent_of o)) rb u) (steps_by u.action vs)) left_found
-      ∙ ap (λ o. map (joined Both (rate_at left u.action) (rate_of (apparent_of o)) u) (steps_by u.action vs)) right_found
+      ∙ at_places (joint_of Both ra rb u) u u.action vs
+      ∙ ap (λ o. map (joint_of Both (rate_of (apparent_of o)) rb u) (steps_by u.action vs)) left_found
+      ∙ ap (λ o. map (joint_of Both (rate_at left u.action) (rate_of (apparent_of o)) u) (steps_by u.action vs)) right_found
 
   -- at the loop's end
-  pub joined_all : (old new : Derived) (k : ℕ) → length indices ≤ k → HasAdded old new (map (joint_at ra rb u vs) (take k indices)) → HasAdded old new (joined_to Both (rate_at left) (rate_at right) vs u)
+  pub joined_all : (old new : Derived) (k : ℕ) → length indices ≤ k → HasAdded old new (map (joint_at ra rb u vs) (take k indices)) → HasAdded old new (joints_with Both (rate_at left) (rate_at right) vs u)
   joined_all old new k end h = has_same old new _ _ (ap (map (joint_at ra rb u vs)) (take_all k indices end) ∙ all_joined) h
 
   -- one of them has no rate in range
   pub joint_stops : (old new : Derived) (k : ℕ) (rate : Rate) → k < length indices → rate ≡ (joint_at ra rb u vs (get_or indices k 0)).rate
-      → ¬ InRange (fraction_of rate) → ¬ AreMovesInRange (joined_to Both (rate_at left) (rate_at right) vs u)
+      → ¬ InRange (fraction_of rate) → ¬ AreMovesInRange (joints_with Both (rate_at left) (rate_at right) vs u)
   joint_stops old new k rate lt at bad all =
       bad (subst (λ (r : Rate). InRange (fraction_of r)) (sym at)
       (all_at (λ v. InRange (fraction_of v.rate)) (joint_at ra rb u vs) indices k lt (subst (λ (l : List (Move Origin)). AreMovesInRange l) (sym all_joined) all)))
 
-  pub joint_ends : (old new : Derived) (k : ℕ) (entry other : Entry) (end : JointEnd) → k < length indices → share_of entry.rate ra other.rate rb ≡ (joint_at ra rb u vs (get_or indices k 0)).rate
-      → IsJointEntry entry ra other rb (Err end) → AddsJoint old new (joined_to Both (rate_at left) (rate_at right) vs u) (Err end)
-  joint_ends old new k entry other ends.Overflow lt at bad = joint_stops old new k (share_of entry.rate ra other.rate rb) lt at bad
+  pub joint_ends : (old new : Derived) (k : ℕ) (entry other : Entry) (end : End RateOverflow) → k < length indices → share_of entry.rate ra other.rate rb ≡ (joint_at ra rb u vs (get_or indices k 0)).rate
+      → IsJointEntry entry ra other rb (Err end) → AddsJoint old new (joints_with Both (rate_at left) (rate_at right) vs u) (Err end)
+  joint_ends old new k entry other (ends.Fault overflow) lt at bad = joint_stops old new k (share_of entry.rate ra other.rate rb) lt at bad
   joint_ends old new k entry other ends.Memory lt at bad = tt
 
 -- ---- where the right side has no rate of the action
@@ -221,32 +222,32 @@ no_entry rates action at (e ∷ es) none rated =
     (no_entry rates action (at + 1) es none (λ u (here : Contains es u) same. rated u (suc here.0, omega (arith, here.1), here.2) same))
 
 pub none_joined : (left right : List (ℕ × Rate)) (u : Move ℕ) (es : List Entry) → None ≡ lookup (is_at (nat_cmp u.action)) right → AreRatedFor u.action right es
-    → joined_to Both (rate_at left) (rate_at right) (numbered 0 es) u ≡ []
-none_joined left right u es none rated = ap (map (joined Both (rate_at left u.action) (rate_at right u.action) u)) (no_entry right u.action 0 es none rated)
+    → joints_with Both (rate_at left) (rate_at right) (numbered 0 es) u ≡ []
+none_joined left right u es none rated = ap (map (joint_of Both (rate_at left u.action) (rate_at right u.action) u)) (no_entry right u.action 0 es none rated)
 
 -- an action without places adds nothing
-pub nothing_joined : (left right : List (ℕ × Rate)) (u : Move ℕ) (vs : List (Move ℕ)) → [] ≡ places_from 0 u.action vs → joined_to Both (rate_at left) (rate_at right) vs u ≡ []
+pub nothing_joined : (left right : List (ℕ × Rate)) (u : Move ℕ) (vs : List (Move ℕ)) → [] ≡ places_from 0 u.action vs → joints_with Both (rate_at left) (rate_at right) vs u ≡ []
 nothing_joined left right u vs none =
-    sym (at_places (joined Both (rate_at left u.action) (rate_at right u.action) u) u u.action vs)
+    sym (at_places (joint_of Both (rate_at left u.action) (rate_at right u.action) u) u u.action vs)
     ∙ ap (map (joint_at (rate_at left u.action) (rate_at right u.action) u vs)) (sym none)
 
 -- ---- all entries of the left side
 
 module _ (types : List ℕ) (left right : List (ℕ × Rate)) (us us' : List (Move ℕ)) (u : Move ℕ) (vs : List (Move ℕ)) (grows : us' ≡ us ++ u ∷ []) where
   abbrev together_of : List (Move ℕ) → List (Move Origin)
-  together_of l = joint Both types (rate_at left) (rate_at right) l vs
+  together_of l = joint_moves Both types (rate_at left) (rate_at right) l vs
 
   abbrev with_one : List (Move Origin)
-  with_one = joined_to Both (rate_at left) (rate_at right) vs u
+  with_one = joints_with Both (rate_at left) (rate_at right) vs u
 
   joined_more : has types u.action ≡ true → together_of us' ≡ together_of us ++ with_one
   joined_more h =
-      ap (flat_map (joined_to Both (rate_at left) (rate_at right) vs)) (shared_more types us us' u grows h)
-      ∙ flat_map-append (joined_to Both (rate_at left) (rate_at right) vs) (shared types us) (u ∷ [])
+      ap (flat_map (joints_with Both (rate_at left) (rate_at right) vs)) (shared_more types us us' u grows h)
+      ∙ flat_map-append (joints_with Both (rate_at left) (rate_at right) vs) (shared types us) (u ∷ [])
       ∙ ap (λ (xs : List (Move Origin)). together_of us ++ xs) (append-nil with_one)
 
   joined_same : has types u.action ≡ false → together_of us ≡ together_of us'
-  joined_same h = ap (flat_map (joined_to Both (rate_at left) (rate_at right) vs)) (sym (shared_same types us us' u grows h))
+  joined_same h = ap (flat_map (joints_with Both (rate_at left) (rate_at right) vs)) (sym (shared_same types us us' u grows h))
 
   module _ (old before : Derived) (so_far : HasAdded old before (together_of us)) where
     pub joins : (new : Derived) → has types u.action ≡ true → HasAdded before new with_one → HasAdded old new (together_of us')
@@ -273,12 +274,12 @@ module _ (P : Move Origin → Type 0) (f : Move ℕ → List (Move Origin)) (p :
   all_given (w ∷ us) (suc k) u lt is h all = all_given us k u (omega (arith, lt)) is h (all_rest (p w) w (filter p us) all)
 
 -- a joint entry without a rate in range is one of all
-pub joining_stops : (types : List ℕ) (left right : List (ℕ × Rate)) (es : List Entry) (vs : List (Move ℕ)) (k : ℕ) (e : Entry) (old before new : Derived) (end : JointEnd)
-    → k < length es → e ≡ get_or es k e → has types e.action ≡ true → AddsJoint before new (joined_to Both (rate_at left) (rate_at right) vs (at_place k e)) (Err end)
-    → AddsJoint old new (joint Both types (rate_at left) (rate_at right) (numbered 0 es) vs) (Err end)
-joining_stops types left right es vs k e old before new ends.Overflow lt at h bad = λ all.
+pub joining_stops : (types : List ℕ) (left right : List (ℕ × Rate)) (es : List Entry) (vs : List (Move ℕ)) (k : ℕ) (e : Entry) (old before new : Derived) (end : End RateOverflow)
+    → k < length es → e ≡ get_or es k e → has types e.action ≡ true → AddsJoint before new (joints_with Both (rate_at left) (rate_at right) vs (at_place k e)) (Err end)
+    → AddsJoint old new (joint_moves Both types (rate_at left) (rate_at right) (numbered 0 es) vs) (Err end)
+joining_stops types left right es vs k e old before new (ends.Fault overflow) lt at h bad = λ all.
     let fits : k < length (numbered 0 es) = omega (arith, lt, numbered_length 0 es) in
-    bad (all_given (λ v. InRange (fraction_of v.rate)) (joined_to Both (rate_at left) (rate_at right) vs) (λ w. has types w.action) (numbered 0 es) k (at_place k e) fits (sym (entry_at es k e (at_place k e) lt at)) h all)
+    bad (all_given (λ v. InRange (fraction_of v.rate)) (joints_with Both (rate_at left) (rate_at right) vs) (λ w. has types w.action) (numbered 0 es) k (at_place k e) fits (sym (entry_at es k e (at_place k e) lt at)) h all)
 joining_stops types left right es vs k e old before new ends.Memory lt at h bad = tt
 
 -- ---- the whole list
@@ -301,35 +302,35 @@ few_pairs types us vs few_left few_right =
     (filter (λ u. has types u.action) (numbered 0 us)) in
     omega (arith, bound, numbered_length 0 us, few_left, filter-shorter (λ u. has types u.action) (numbered 0 us))
 
-pub few_alone : (types : List ℕ) (us : List Entry) → length us ≤ 65535 → length (alone types (numbered 0 us)) ≤ 65535
+pub few_alone : (types : List ℕ) (us : List Entry) → length us ≤ 65535 → length (outside_set types (numbered 0 us)) ≤ 65535
 few_alone types us few = omega (arith, few, numbered_length 0 us, filter-shorter (λ u. not (has types u.action)) (numbered 0 us))
 
 module _ (types : List ℕ) (l r : List (ℕ × Rate)) (us vs : List Entry) where
   abbrev lefts : List (Move Origin)
-  lefts = map (carry Left) (alone types (numbered 0 us))
+  lefts = map (carry Left) (outside_set types (numbered 0 us))
 
   abbrev rights : List (Move Origin)
-  rights = map (carry Right) (alone types (numbered 0 vs))
+  rights = map (carry Right) (outside_set types (numbered 0 vs))
 
   abbrev joints : List (Move Origin)
-  joints = joint Both types (rate_at l) (rate_at r) (numbered 0 us) (numbered 0 vs)
+  joints = joint_moves Both types (rate_at l) (rate_at r) (numbered 0 us) (numbered 0 vs)
 
   joint_length : length joints ≡ pair_count types (numbered 0 us) (numbered 0 vs)
   joint_length =
-      length-flat_map (joined_to Both (rate_at l) (rate_at r) (numbered 0 vs)) (filter (λ u. has types u.action) (numbered 0 us))
-      ∙ sum_by-same (λ u. length (joined_to Both (rate_at l) (rate_at r) (numbered 0 vs) u)) (λ u. length (filter (λ v. u.action == v.action) (numbered 0 vs)))
+      length-flat_map (joints_with Both (rate_at l) (rate_at r) (numbered 0 vs)) (filter (λ u. has types u.action) (numbered 0 us))
+      ∙ sum_by-same (λ u. length (joints_with Both (rate_at l) (rate_at r) (numbered 0 vs) u)) (λ u. length (filter (λ v. u.action == v.action) (numbered 0 vs)))
       (λ u. length-map (filter (λ v. u.action == v.action) (numbered 0 vs)) _) (filter (λ u. has types u.action) (numbered 0 us))
 
   -- how many there are, from the three counts
-  pub total : (a b j : ℕ) → a ≡ length (alone types (numbered 0 us)) → b ≡ length (alone types (numbered 0 vs)) → j ≡ pair_count types (numbered 0 us) (numbered 0 vs)
+  pub total : (a b j : ℕ) → a ≡ length (outside_set types (numbered 0 us)) → b ≡ length (outside_set types (numbered 0 vs)) → j ≡ pair_count types (numbered 0 us) (numbered 0 vs)
       → length (combined types l r us vs) ≡ (a + b) + j
   total a b j count_left count_right count_both =
       omega (
         arith,
         length-append (lefts ++ rights) joints,
         length-append lefts rights,
-        length-map (alone types (numbered 0 us)) (carry {X = ℕ} {Y = Origin} Left),
-        length-map (alone types (numbered 0 vs)) (carry {X = ℕ} {Y = Origin} Right),
+        length-map (outside_set types (numbered 0 us)) (carry {X = ℕ} {Y = Origin} Left),
+        length-map (outside_set types (numbered 0 vs)) (carry {X = ℕ} {Y = Origin} Right),
         joint_length,
       )
 
@@ -337,20 +338,20 @@ module _ (types : List ℕ) (l r : List (ℕ × Rate)) (us vs : List Entry) wher
   numbers_range at [] h = tt
   numbers_range at (e ∷ es) h = (h.0, numbers_range (at + 1) es h.1)
 
-  side_range : (f : ℕ → Origin) (es : List Entry) → AreInRangeBy es → AreMovesInRange (map (carry f) (alone types (numbered 0 es)))
+  side_range : (f : ℕ → Origin) (es : List Entry) → AreInRangeBy es → AreMovesInRange (map (carry f) (outside_set types (numbered 0 es)))
   side_range f es h =
-      all_map (λ u. InRange (fraction_of u.rate)) (carry f) (alone types (numbered 0 es))
+      all_map (λ u. InRange (fraction_of u.rate)) (carry f) (outside_set types (numbered 0 es))
       (all_filter (λ u. InRange (fraction_of u.rate)) (λ u. not (has types u.action)) (numbered 0 es) (numbers_range 0 es h))
 
   -- all three, one after another
-  pub all_combined : (old first second third : Derived) → AreInRangeBy us → AreInRangeBy vs → Adds old.entries.items first.entries.items old.origins.items first.origins.items lefts
-      → Adds first.entries.items second.entries.items first.origins.items second.origins.items rights → HasAdded second third joints → HasAdded old third (combined types l r us vs)
+  pub all_combined : (old first second third : Derived) → AreInRangeBy us → AreInRangeBy vs → AddsEntries old.entries.items first.entries.items old.origins.items first.origins.items lefts
+      → AddsEntries first.entries.items second.entries.items first.origins.items second.origins.items rights → HasAdded second third joints → HasAdded old third (combined types l r us vs)
   all_combined old first second third of_us of_vs f g h =
       has_more old second third (lefts ++ rights) joints (combined types l r us vs) refl
       (has_more old first second lefts rights (lefts ++ rights) refl (f, side_range Left us of_us) (g, side_range Right vs of_vs)) h
 
-  pub joint_fault : (old new : Derived) (end : JointEnd) → length (combined types l r us vs) ≤ 65535 → AddsJoint old new joints (Err end) → (before : Derived) → AnswersCombined before new (combined types l r us vs) (Err (joint_end end))
-  joint_fault old new ends.Overflow short out before = (OfDerivation, (short, λ all. out (all_front (λ u. InRange (fraction_of u.rate)) (lefts ++ rights) joints all)), refl)
+  pub joint_fault : (old new : Derived) (end : End RateOverflow) → length (combined types l r us vs) ≤ 65535 → AddsJoint old new joints (Err end) → (before : Derived) → AnswersCombined before new (combined types l r us vs) (Err (joint_end end))
+  joint_fault old new (ends.Fault overflow) short out before = (OfDerivation, (short, λ all. out (all_front (λ u. InRange (fraction_of u.rate)) (lefts ++ rights) joints all)), refl)
   joint_fault old new ends.Memory short out before = tt
 
   pub too_long : (old new : Derived) → 65535 < length (combined types l r us vs) → AnswersCombined old new (combined types l r us vs) (Err (Fault name.ListTooLong))

@@ -10,7 +10,7 @@ use Rattle.pepa_model.specs.Apparent.{Apparent, NoRate, Rated, Undefined}
 use Rattle.pepa_model.proofs.TransitionLists.{Among-front, Among-back, Among-map}
 use Rattle.pepa_steps.specs.States.{State, Cooperating, has, StateTransition}
 use Rattle.pepa_steps.specs.OpenStates.{OpenState, CoopOpen, OpensState, apparent_in, left_move, right_move, joint_move, closed_state, rate_of, moves_in}
-use Rattle.pepa_steps.specs.Rules.{StateDerivation, OnLeft, OnRight, OnBoth, HasApparent, Concludes, Precedes}
+use Rattle.pepa_steps.specs.Rules.{StateDerivation, OnLeft, OnRight, OnBoth, HasApparent, StateConcludes, StatePrecedes}
 use Rattle.pepa_steps.proofs.ElementsOf.{from_append, from_map, from_filter, from_flat_map, Among-filter, Among-flat_map, map_square, map_filter, map_flat_map}
 use Rattle.pepa_steps.proofs.DerivedLists.{Derived, derived, transition_in, Before, Ascends, Ascends-append, Ascends-map, Ascends-filter, Ascends-flat_map, DerivedMoves}
 use Rattle.pepa_steps.proofs.OneState.{one_tree}
@@ -24,8 +24,8 @@ rate_is (Rated s) r h = refl
 rate_is NoRate r h = absurd cc
 rate_is Undefined r h = absurd cc
 
-precedes_so : (d e d' e' : StateDerivation) → d ≡ d' → e ≡ e' → Precedes d' e' → Precedes d e
-precedes_so d e d' e' d_is e_is h = subst (λ (x : StateDerivation). Precedes x e) (sym d_is) (subst (λ (x : StateDerivation). Precedes d' x) (sym e_is) h)
+precedes_so : (d e d' e' : StateDerivation) → d ≡ d' → e ≡ e' → StatePrecedes d' e' → StatePrecedes d e
+precedes_so d e d' e' d_is e_is h = subst (λ (x : StateDerivation). StatePrecedes x e) (sym d_is) (subst (λ (x : StateDerivation). StatePrecedes d' x) (sym e_is) h)
 
 module _ (definitions : List Definition) (s t : OpenState) (set : List ℕ) (left : DerivedMoves definitions s) (right : DerivedMoves definitions t) where
   abbrev whole : State
@@ -208,7 +208,7 @@ module _ (definitions : List Definition) (s t : OpenState) (set : List ℕ) (lef
   -- ---- what they conclude
 
   abbrev IsConcluded : Derived → Type 0
-  IsConcluded p = Concludes definitions p.derivation whole p.transition
+  IsConcluded p = StateConcludes definitions p.derivation whole p.transition
 
   left_concluded : (p : Derived) → IsLeft p → IsConcluded p
   left_concluded p h = subst IsConcluded (sym h.is) (h.from.transition, left.concluded h.from h.among, h.passes, refl)
@@ -219,21 +219,21 @@ module _ (definitions : List Definition) (s t : OpenState) (set : List ℕ) (lef
   abbrev IsComplete : StateDerivation → StateTransition → Type 0
   IsComplete d w = Among (derived d w) all
 
-  left_complete : (d : StateDerivation) (u w : StateTransition) → Concludes definitions d (closed_state s) u → has set u.action ≡ false
+  left_complete : (d : StateDerivation) (u w : StateTransition) → StateConcludes definitions d (closed_state s) u → has set u.action ≡ false
       → w ≡ left_move (closed_state t) set u → IsComplete (OnLeft d) w
   left_complete d u w h alone is =
       let found = Among-filter (λ (u : Derived). outside u.transition) (derived d u) left.all (left.complete d u h) (not_from_false (has set u.action) alone) in
       let here = Among-map left_of (derived d u) (filter (λ u. outside u.transition) left.all) found in
       subst (IsComplete (OnLeft d)) (sym is) (Among-front (left_of (derived d u)) (lefts ++ rights) joints (Among-front (left_of (derived d u)) lefts rights here))
 
-  right_complete : (d : StateDerivation) (v w : StateTransition) → Concludes definitions d (closed_state t) v → has set v.action ≡ false
+  right_complete : (d : StateDerivation) (v w : StateTransition) → StateConcludes definitions d (closed_state t) v → has set v.action ≡ false
       → w ≡ right_move (closed_state s) set v → IsComplete (OnRight d) w
   right_complete d v w h alone is =
       let found = Among-filter (λ (v : Derived). outside v.transition) (derived d v) right.all (right.complete d v h) (not_from_false (has set v.action) alone) in
       let here = Among-map right_of (derived d v) (filter (λ v. outside v.transition) right.all) found in
       subst (IsComplete (OnRight d)) (sym is) (Among-front (right_of (derived d v)) (lefts ++ rights) joints (Among-back (right_of (derived d v)) lefts rights here))
 
-  both_complete : (d e : StateDerivation) (u v w : StateTransition) → Concludes definitions d (closed_state s) u → Concludes definitions e (closed_state t) v
+  both_complete : (d e : StateDerivation) (u v w : StateTransition) → StateConcludes definitions d (closed_state s) u → StateConcludes definitions e (closed_state t) v
       → has set u.action ≡ true → v.action ≡ u.action → w ≡ joint u v → IsComplete (OnBoth d e) w
   both_complete d e u v w h k within same is =
       let found = Among-filter (λ (u : Derived). inside u.transition) (derived d u) left.all (left.complete d u h) within in
@@ -261,7 +261,7 @@ module _ (definitions : List Definition) (s t : OpenState) (set : List ℕ) (lef
   moves_have tree side u h = subst (λ (l : List StateTransition). Among u.transition l) side.moves_are (Among-map transition_in u side.all h)
 
   both_concluded : (u v : Derived) → Among u left.all → Among v right.all → has set u.transition.action ≡ true → u.transition.action ≡ v.transition.action
-      → Concludes definitions (OnBoth u.derivation v.derivation) (Cooperating (closed_state s) (closed_state t) set)
+      → StateConcludes definitions (OnBoth u.derivation v.derivation) (Cooperating (closed_state s) (closed_state t) set)
       (joint_move set (rate_of (apparent_in s u.transition.action)) (rate_of (apparent_in t u.transition.action)) u.transition v.transition)
   both_concluded u v among_u among_v within same =
       let a : ℕ = u.transition.action in
@@ -291,7 +291,7 @@ module _ (definitions : List Definition) (s t : OpenState) (set : List ℕ) (lef
       of_list (inl h) = of_alone (from_append p (lefts definitions s t set left right) (rights definitions s t set left right) h)
       of_list (inr h) = joint_concluded p (from_joints definitions s t set left right p h)
 
-  complete : (d : StateDerivation) (w : StateTransition) → Concludes definitions d (Cooperating (closed_state s) (closed_state t) set) w → IsComplete definitions s t set left right d w
+  complete : (d : StateDerivation) (w : StateTransition) → StateConcludes definitions d (Cooperating (closed_state s) (closed_state t) set) w → IsComplete definitions s t set left right d w
   complete (OnLeft d) w (u, h, alone, is) = left_complete definitions s t set left right d u w h alone is
   complete (OnRight d) w (v, h, alone, is) = right_complete definitions s t set left right d v w h alone is
   complete (OnBoth d e) w (u, v, h, k, within, same, (ra, rb, of_s, of_t, is)) =

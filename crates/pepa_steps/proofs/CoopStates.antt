@@ -1,16 +1,16 @@
 -- The rates and steps of cooperations and hidings are those of each state that they stand for.
-use Rattle.std.proofs.Common.{◌≡◌, ◌==◌, ℕ, zero, suc, ◌<◌, Bool, true, false, ◌||◌, if◌then◌else◌, List, [], ◌∷◌, map, Some, slice_get, slice_index_or}
+use Rattle.std.proofs.Common.{◌≡◌, ◌==◌, ℕ, zero, suc, ◌<◌, Bool, true, false, ◌||◌, if◌then◌else◌, List, [], ◌∷◌, map, Some, slice_get}
 use Rattle.std.proofs.Common.{refl, sym, ap, subst, ne_eqb, ◌∙◌, arith}
 use Rattle.std.specs.List.{AllByRecursion, AllZip}
-use Rattle.std.proofs.lemmas.Option.{get_or_from_slice_get}
+use Rattle.std.proofs.lemmas.Option.{same_Some}
 use Rattle.pepa_model.specs.Apparent.{Apparent, NoRate, together}
 use Rattle.pepa_model.specs.PepaModel.{PepaModel}
 use Rattle.pepa_model.specs.Terms.{TermNode, CoopNode, HideNode}
 use Rattle.pepa_rates.specs.declared.rate.Rate.{Rate}
-use Rattle.pepa_steps.specs.Moves.{cooperation, hidden}
+use Rattle.pepa_steps.specs.Moves.{cooperation, under_hiding}
 use Rattle.pepa_steps.specs.Alike.{Alike}
 use Rattle.pepa_steps.specs.States.{State, Cooperating, Hiding, has, NodeStandsFor}
-use Rattle.pepa_steps.specs.OpenStates.{OpenState, CoopOpen, HideOpen, apparent_in, jointly, closed_state, rate_of, moves_in}
+use Rattle.pepa_steps.specs.OpenStates.{OpenState, CoopOpen, HideOpen, apparent_in, least_if_both, closed_state, rate_of, moves_in}
 use Rattle.pepa_steps.specs.ActionRates.{rate_in}
 use Rattle.pepa_steps.specs.StateRates.{rates_of_cooperation, rates_of_hiding}
 use Rattle.pepa_steps.specs.Combined.{rate_at}
@@ -30,15 +30,15 @@ has_positive types h zero is = let none = has_no_tau types h in absurd cc
 has_positive types h (suc n) is = omega arith
 
 -- the set of a state is the one that the program has by its number
-pub types_same : (m : PepaModel) (number : ℕ) (types set : List ℕ) → types ≡ slice_index_or m.sets number [] → slice_get m.sets number ≡ Some set → types ≡ set
-types_same m number types set is at = is ∙ get_or_from_slice_get m.sets number set [] at
+pub types_same : (m : PepaModel) (number : ℕ) (types set : List ℕ) → slice_get m.sets number ≡ Some types → slice_get m.sets number ≡ Some set → types ≡ set
+types_same m number types set is at = same_Some types set (sym is ∙ at)
 
 -- the steps of a cooperation and of a hiding
 abbrev pub coop_steps : List ℕ → ℕ → TermNode → TermNode → List (ℕ × Rate) → List (ℕ × Rate) → List StepNode → List StepNode → List StepNode
 coop_steps types number left right l r = cooperation (λ x. CoopNode x right number) (λ y. CoopNode left y number) (λ x y. CoopNode x y number) types (rate_at l) (rate_at r)
 
 abbrev pub hide_steps : List ℕ → ℕ → List StepNode → List StepNode
-hide_steps types number us = map (hidden (λ x. HideNode x number) types) us
+hide_steps types number us = map (under_hiding (λ x. HideNode x number) types) us
 
 module _ (m : PepaModel) where
   -- ---- cooperations
@@ -47,16 +47,16 @@ module _ (m : PepaModel) where
       (stands_left : NodeStandsFor m p left) (stands_right : NodeStandsFor m q right) (at : slice_get m.sets number ≡ Some types) where
     cooperation_each : (action : ℕ) → 0 < action → rates_of_cooperation types l r action ≡ apparent_in (CoopOpen s t types) action
     cooperation_each action positive =
-        ap (λ (x : Apparent). if has types action then jointly x (rate_in r action) else together x (rate_in r action)) (of_left.rates_are.each action positive)
-        ∙ ap (λ (x : Apparent). if has types action then jointly (apparent_in s action) x else together (apparent_in s action) x) (of_right.rates_are.each action positive)
+        ap (λ (x : Apparent). if has types action then least_if_both x (rate_in r action) else together x (rate_in r action)) (of_left.rates_are.each action positive)
+        ∙ ap (λ (x : Apparent). if has types action then least_if_both (apparent_in s action) x else together (apparent_in s action) x) (of_right.rates_are.each action positive)
 
     cooperation_none : rates_of_cooperation types l r 0 ≡ NoRate
     cooperation_none =
-        ap (λ (x : Apparent). if has types 0 then jointly x (rate_in r 0) else together x (rate_in r 0)) of_left.rates_are.no_tau
-        ∙ ap (λ (x : Apparent). if has types 0 then jointly NoRate x else together NoRate x) of_right.rates_are.no_tau
+        ap (λ (x : Apparent). if has types 0 then least_if_both x (rate_in r 0) else together x (rate_in r 0)) of_left.rates_are.no_tau
+        ∙ ap (λ (x : Apparent). if has types 0 then least_if_both NoRate x else together NoRate x) of_right.rates_are.no_tau
         ∙ of_test (has types 0)
       where
-        of_test : (b : Bool) → (if b then jointly NoRate NoRate else together NoRate NoRate) ≡ NoRate
+        of_test : (b : Bool) → (if b then least_if_both NoRate NoRate else together NoRate NoRate) ≡ NoRate
         of_test true = refl
         of_test false = refl
 

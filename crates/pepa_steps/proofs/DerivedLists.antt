@@ -5,7 +5,7 @@ use Rattle.pepa_model.specs.Derivation.{Among}
 use Rattle.pepa_model.specs.Expression.{Definition}
 use Rattle.pepa_steps.specs.States.{StateTransition}
 use Rattle.pepa_steps.specs.OpenStates.{OpenState, closed_state, moves_in}
-use Rattle.pepa_steps.specs.Rules.{StateDerivation, Concludes, Precedes, InOrder}
+use Rattle.pepa_steps.specs.Rules.{StateDerivation, StateConcludes, StatePrecedes, InOrder}
 use Rattle.pepa_steps.proofs.ElementsOf.{from_append, from_map, from_filter, from_flat_map, all_from}
 
 -- a derivation and what it concludes
@@ -23,7 +23,7 @@ abbrev pub transition_in : Derived → StateTransition
 transition_in p = p.transition
 
 abbrev pub Before : Derived → Derived → Type 0
-Before p q = Precedes p.derivation q.derivation
+Before p q = StatePrecedes p.derivation q.derivation
 
 -- each one is before all later ones
 abbrev pub Ascends : List Derived → Type 0
@@ -68,10 +68,10 @@ Ascends-flat_map f each across (x ∷ xs) h =
 pub derivations_ascend : (ps : List Derived) → Ascends ps → InOrder (map derivation_in ps)
 derivations_ascend [] h = tt
 derivations_ascend (p ∷ ps) h =
-    (all_from (Precedes p.derivation) (map derivation_in ps) (λ d among. of_found d (from_map derivation_in d ps among)), derivations_ascend ps h.1)
+    (all_from (StatePrecedes p.derivation) (map derivation_in ps) (λ d among. of_found d (from_map derivation_in d ps among)), derivations_ascend ps h.1)
   where
-    of_found : (d : StateDerivation) → (q : Derived) × Among q ps × (d ≡ derivation_in q) → Precedes p.derivation d
-    of_found d (q, among, is) = subst (λ (d : StateDerivation). Precedes p.derivation d) (sym is) (h.0 q among)
+    of_found : (d : StateDerivation) → (q : Derived) × Among q ps × (d ≡ derivation_in q) → StatePrecedes p.derivation d
+    of_found d (q, among, is) = subst (λ (d : StateDerivation). StatePrecedes p.derivation d) (sym is) (h.0 q among)
 
 pub zip_of_all : (R : StateDerivation → StateTransition → Type 0) (ps : List Derived)
     → ((p : Derived) → Among p ps → R p.derivation p.transition) → AllZip R (map derivation_in ps) (map transition_in ps)
@@ -84,6 +84,6 @@ zip_of_all R (p ∷ ps) h = (h p (inl refl), zip_of_all R ps (λ q among. h q (i
 pub record DerivedMoves (definitions : List Definition) (tree : OpenState) : Type 0 where
   pub all : List Derived
   pub moves_are : map transition_in all ≡ moves_in tree
-  pub concluded : (p : Derived) → Among p all → Concludes definitions p.derivation (closed_state tree) p.transition
-  pub complete : (d : StateDerivation) (t : StateTransition) → Concludes definitions d (closed_state tree) t → Among (derived d t) all
+  pub concluded : (p : Derived) → Among p all → StateConcludes definitions p.derivation (closed_state tree) p.transition
+  pub complete : (d : StateDerivation) (t : StateTransition) → StateConcludes definitions d (closed_state tree) t → Among (derived d t) all
   pub ascends : Ascends all

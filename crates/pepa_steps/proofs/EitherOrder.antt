@@ -5,8 +5,9 @@ use Rattle.pepa_rates.specs.declared.rate.Rate.{Rate}
 use Rattle.pepa_rates.specs.declared.rate.Rate.TheVariants.{Active, Passive}
 use Rattle.pepa_rates.proofs.Sums.{sum_of-comm}
 use Rattle.pepa_model.specs.Apparent.{Apparent, NoRate, Rated, Undefined, together, IsFine, HasFault}
-use Rattle.pepa_steps.specs.declared.action_rates.RatesEnd.{RatesEnd}
-use Rattle.pepa_steps.specs.declared.action_rates.RatesEnd.TheVariants.{Fault, Memory}
+use Rattle.pepa_rates.specs.declared.rate.RateFault.{RateFault}
+use Rattle.fault_ends.specs.declared.end.End.{End}
+use Rattle.fault_ends.specs.declared.end.End.TheVariants.{Fault, Memory}
 use Rattle.pepa_steps.specs.ActionRates.{rate_in, AnswersChoice, rates_of_choice}
 
 same_sum : (r s : Rate) → together (Rated r) (Rated s) ≡ together (Rated s) (Rated r)
@@ -30,7 +31,7 @@ module _ (left right : List (ℕ × Rate)) where
   same : (action : ℕ) → rates_of_choice right left action ≡ rates_of_choice left right action
   same action = together-comm (rate_in right action) (rate_in left action)
 
-  pub other_order : (result : Result (BTreeMap ℕ Rate) RatesEnd) → AnswersChoice right left result → AnswersChoice left right result
+  pub other_order : (result : Result (BTreeMap ℕ Rate) (End RateFault)) → AnswersChoice right left result → AnswersChoice left right result
   other_order (Ok rates) h = (h.0, λ action. h.1 action ∙ same action)
   other_order (Err (Fault fault)) h = record {
     action = h.action;

@@ -20,14 +20,15 @@ use Rattle.pepa_steps.specs.declared.entries.Derived.{Derived}
 use Rattle.pepa_steps.specs.declared.buffers.Mark.TheVariants as mark
 use Rattle.pepa_steps.specs.declared.buffers.Buffers.{Buffers}
 use Rattle.pepa_steps.specs.declared.loading.Found.{Found}
-use Rattle.pepa_steps.specs.declared.action_rates.RatesEnd.{RatesEnd}
-use Rattle.pepa_steps.specs.declared.action_rates.RatesEnd.TheVariants as rates
+use Rattle.pepa_rates.specs.declared.rate.RateFault.{RateFault}
+use Rattle.fault_ends.specs.declared.end.End.{End}
+use Rattle.fault_ends.specs.declared.end.End.TheVariants as rates
 use Rattle.pepa_steps.specs.declared.transitions.StepFault.TheVariants.{ListTooLong}
 use Rattle.pepa_steps.specs.declared.transitions.StepsEnd.{StepsEnd}
 use Rattle.pepa_steps.specs.declared.transitions.StepsEnd.TheVariants.{Fault, Memory}
 use Rattle.pepa_steps.proofs.Faults.{all_append}
 use Rattle.pepa_steps.proofs.NodeLists.{all_unmap}
-use Rattle.pepa_steps.proofs.Loads.{beside_entries}
+use Rattle.pepa_steps.proofs.CoopTargets.{beside_entries}
 
 take_front : {X : Type 0} (xs ys : List X) (n : ℕ) → length xs ≡ n → take n (xs ++ ys) ≡ xs
 take_front [] ys zero e = refl
@@ -90,19 +91,19 @@ replaced_end types l r list front us vs ours theirs a b ends same_ours same_thei
 
 -- ---- the end of the rates
 
-pub coop_rates_end : (types : List ℕ) (front us vs : List Entry) (l r : Found) (old new : Buffers) (end : RatesEnd) → AnswersRatesBy (rates_of_cooperation types l.rates.entries r.rates.entries) (Err end)
+pub coop_rates_end : (types : List ℕ) (front us vs : List Entry) (l r : Found) (old new : Buffers) (end : End RateFault) → AnswersRatesBy (rates_of_cooperation types l.rates.entries r.rates.entries) (Err end)
     → AnswersCoop types front us vs l r old new (Err (rates_end end))
 coop_rates_end types front us vs l r old new (rates.Fault Mixed) h = (OfRates Mixed, h, refl)
 coop_rates_end types front us vs l r old new (rates.Fault Overflow) h = (OfRates Overflow, h, refl)
 coop_rates_end types front us vs l r old new rates.Memory h = tt
 
-choice_end : (l r : List (ℕ × Rate)) (end : RatesEnd) → AnswersChoice l r (Err end) → AnswersRatesBy (rates_of_cooperation [] l r) (Err end)
+choice_end : (l r : List (ℕ × Rate)) (end : End RateFault) → AnswersChoice l r (Err end) → AnswersRatesBy (rates_of_cooperation [] l r) (Err end)
 choice_end l r (rates.Fault fault) h = h
 choice_end l r rates.Memory h = tt
 
 -- ---- over no types
 
-pub beside_rates_end : (front us vs : List Entry) (l r : Found) (old new : Buffers) (end : RatesEnd) → AnswersChoice l.rates.entries r.rates.entries (Err end)
+pub beside_rates_end : (front us vs : List Entry) (l r : Found) (old new : Buffers) (end : End RateFault) → AnswersChoice l.rates.entries r.rates.entries (Err end)
     → AnswersCoop [] front us vs l r old new (Err (rates_end end))
 beside_rates_end front us vs l r old new end h = coop_rates_end [] front us vs l r old new end (choice_end l.rates.entries r.rates.entries end h)
 

@@ -8,8 +8,8 @@ use Rattle.pepa_model.specs.Opened.{Opened, Opens, moves}
 use Rattle.pepa_model.proofs.OneList as leaves
 use Rattle.pepa_model.proofs.TransitionLists as leaf_lists
 use Rattle.pepa_steps.specs.States.{AtLeaf, StateTransition}
-use Rattle.pepa_steps.specs.OpenStates.{LeafOpen, leaf_move, closed}
-use Rattle.pepa_steps.specs.Rules.{StateDerivation, OfLeaf, Concludes}
+use Rattle.pepa_steps.specs.OpenStates.{LeafOpen, leaf_move, unopened}
+use Rattle.pepa_steps.specs.Rules.{StateDerivation, OfLeaf, StateConcludes}
 use Rattle.pepa_steps.proofs.DerivedLists.{Derived, derived, transition_in, Before, Ascends, DerivedMoves}
 
 -- each derivation with its transition
@@ -58,9 +58,9 @@ module _ (R : Derivation → Transition → Type 0) where
 
 module _ (definitions : List Definition) where
   abbrev LeafConcludes : Opened → Derivation → Transition → Type 0
-  LeafConcludes o d t = leaf.Concludes definitions d (closed o) t
+  LeafConcludes o d t = leaf.Concludes definitions d (unopened o) t
 
-  pub leaf_moves : (o : Opened) → Opens definitions (closed o) o → DerivedMoves definitions (LeafOpen o)
+  pub leaf_moves : (o : Opened) → Opens definitions (unopened o) o → DerivedMoves definitions (LeafOpen o)
   leaf_moves o opens = record {
     all = zipped list.derivations (moves o);
     moves_are = zipped_moves (LeafConcludes o) list.derivations (moves o) list.conclusions;
@@ -69,15 +69,15 @@ module _ (definitions : List Definition) where
     ascends = zipped_ascends (LeafConcludes o) list.derivations (moves o) list.conclusions list.in_order;
   }
     where
-      list : leaf.IsTransitionList definitions (closed o) (moves o)
-      list = leaf_lists.transition_list definitions (closed o) o opens
+      list : leaf.IsComponentTransitionList definitions (unopened o) (moves o)
+      list = leaf_lists.transition_list definitions (unopened o) o opens
 
-      of_found : (p : Derived) → IsZipped (LeafConcludes o) p list.derivations → Concludes definitions p.derivation (AtLeaf (closed o)) p.transition
-      of_found p z = subst (λ (p : Derived). Concludes definitions p.derivation (AtLeaf (closed o)) p.transition) (sym z.is) (z.transition, z.related, refl)
+      of_found : (p : Derived) → IsZipped (LeafConcludes o) p list.derivations → StateConcludes definitions p.derivation (AtLeaf (unopened o)) p.transition
+      of_found p z = subst (λ (p : Derived). StateConcludes definitions p.derivation (AtLeaf (unopened o)) p.transition) (sym z.is) (z.transition, z.related, refl)
 
-      of_conclusion : (d : StateDerivation) (t : StateTransition) → Concludes definitions d (AtLeaf (closed o)) t → Among (derived d t) (zipped list.derivations (moves o))
+      of_conclusion : (d : StateDerivation) (t : StateTransition) → StateConcludes definitions d (AtLeaf (unopened o)) t → Among (derived d t) (zipped list.derivations (moves o))
       of_conclusion (OfLeaf d) t (u, h, is) =
           let (v, related, among) = among_zipped (LeafConcludes o) d list.derivations (moves o) list.conclusions (list.complete d u h) in
-          let same = leaves.same_conclusion definitions d (closed o) u v h related in
+          let same = leaves.same_conclusion definitions d (unopened o) u v h related in
           subst (λ (t : StateTransition). Among (derived (OfLeaf d) t) (zipped list.derivations (moves o))) (sym (is ∙ ap leaf_move same)) among
       of_conclusion d t h = absurd h

@@ -25,10 +25,10 @@ use Rattle.pepa_steps.specs.ActionRates as of_component
 use Rattle.pepa_steps.specs.ActionRates.{AnswersRates}
 use Rattle.pepa_steps.specs.PartAnswers.{LeadsTo, IsPartOf}
 use Rattle.pepa_steps.specs.KeptRates.{AnswersLeaf}
-use Rattle.pepa_steps.specs.Traces.{activity_node, IsFaultOf}
+use Rattle.pepa_steps.specs.Traces.{activity_node, IsPartFaultOf}
 use Rattle.pepa_steps.specs.EndNames.{rates_end}
-use Rattle.pepa_steps.specs.declared.action_rates.RatesEnd.{RatesEnd}
-use Rattle.pepa_steps.specs.declared.action_rates.RatesEnd.TheVariants.{Fault, Memory}
+use Rattle.fault_ends.specs.declared.end.End.{End}
+use Rattle.fault_ends.specs.declared.end.End.TheVariants.{Fault, Memory}
 use Rattle.pepa_steps.proofs.Faults.{all_append, all_front}
 use Rattle.pepa_steps.proofs.NodeLists.{all_map}
 use Rattle.pepa_steps.proofs.ProperRates.{HasProperPrefixes, proper_state}
@@ -59,7 +59,7 @@ small_parts (OpenConst c p) h =
     all_append IsSmall (parts p) (OpenConst c p ∷ []) (small_parts p (record { short = h.short; in_range = h.in_range })) (h, tt)
 
 -- a small part whose apparent rates are in order is in order
-fine_parts : (ps : List Opened) → AllByRecursion of_component.HasFineRates ps → AllByRecursion IsSmall ps → AllByRecursion IsFinePart (map LeafOpen ps)
+fine_parts : (ps : List Opened) → AllByRecursion of_component.HasFineComponentRates ps → AllByRecursion IsSmall ps → AllByRecursion IsFinePart (map LeafOpen ps)
 fine_parts [] h k = tt
 fine_parts (p ∷ ps) h k =
     let short : length (map leaf_move (moves p)) ≤ 65535 = omega (arith, length-map (moves p) leaf_move, k.0.short) in
@@ -128,6 +128,10 @@ module _ (m : PepaModel) where
           same = activity_moves activities (moves o) stand;
         }
 
+    -- the activities are the leaf's transitions
+    pub leaf_steps : (o : Opened) → Opens m.bodies e o → AllZip (Alike (LeadsTo m)) (map activity_node activities) (map leaf_move (moves o))
+    leaf_steps o opens = (leaf_with o opens).same
+
     pub leaf_targets : AllByRecursion (λ u. IsNodeOf m u.target) (map activity_node activities)
     leaf_targets =
         let leaf = sound.leaves number e at in
@@ -159,10 +163,10 @@ module _ (m : PepaModel) where
     leaf_found rates answers (AtLeaf f) (HideOpen s set) stands opens = absurd opens
     leaf_found rates answers state tree stands opens = absurd stands
 
-    pub leaf_fault : (end : RatesEnd) → AnswersLeaf m number (Err end) → IsFaultOf m (LeafNode number) (rates_end end)
+    pub leaf_fault : (end : End RateFault) → AnswersLeaf m number (Err end) → IsPartFaultOf m (LeafNode number) (rates_end end)
     leaf_fault (Fault Mixed) answers = of_state
       where
-        of_state : IsFaultOf m (LeafNode number) (rates_end (Fault Mixed))
+        of_state : IsPartFaultOf m (LeafNode number) (rates_end (Fault Mixed))
         of_state (AtLeaf f) (LeafOpen o) stands opens =
             let same : f ≡ e = cc (stands, at) in
             let own = subst (λ (x : Expression). Opens m.bodies x o) same opens in
@@ -172,7 +176,7 @@ module _ (m : PepaModel) where
         of_state state tree stands opens = absurd stands
     leaf_fault (Fault Overflow) answers = of_state
       where
-        of_state : IsFaultOf m (LeafNode number) (rates_end (Fault Overflow))
+        of_state : IsPartFaultOf m (LeafNode number) (rates_end (Fault Overflow))
         of_state (AtLeaf f) (LeafOpen o) stands opens =
             let same : f ≡ e = cc (stands, at) in
             let own = subst (λ (x : Expression). Opens m.bodies x o) same opens in

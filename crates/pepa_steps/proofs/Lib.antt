@@ -32,7 +32,10 @@ pub mod LeafParts
 pub mod Listed
 pub mod StateParts
 pub mod CoopStates
+pub mod CoopTargets
 pub mod Loads
 pub mod EndLists
 pub mod Aims
 pub mod TypeSets
+pub mod Decisions
+pub mod Existing

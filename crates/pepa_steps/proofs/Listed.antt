@@ -11,10 +11,10 @@ use Rattle.pepa_steps.specs.Alike.{Alike}
 use Rattle.pepa_steps.specs.States.{State, StateTransition, NodeStandsFor, StandsFor, StepStandsFor}
 use Rattle.pepa_steps.specs.OpenStates.{OpenState, OpensState, parts_in, moves_in}
 use Rattle.pepa_steps.specs.Rules.{IsTransitionList}
-use Rattle.pepa_steps.specs.StateVerdict.{IsWithoutFault, HasFineRates, IsFinePart}
+use Rattle.pepa_steps.specs.StateVerdict.{IsWithoutFault, HasFineStateRates, IsFinePart}
 use Rattle.pepa_steps.specs.Combined.{entry_of}
 use Rattle.pepa_steps.specs.PartAnswers.{StepNode, LeadsTo, IsPartOf}
-use Rattle.pepa_steps.specs.Traces.{Traces, AnswersLoad, HasList, IsFaultOf}
+use Rattle.pepa_steps.specs.Traces.{Traces, AnswersLoad, HasList, IsPartFaultOf}
 use Rattle.pepa_steps.specs.ListAnswers.{AreEntries, IsListAnswer, IsTransitionAt}
 use Rattle.pepa_steps.specs.declared.entries.Entry.{Entry}
 use Rattle.pepa_steps.specs.declared.buffers.Buffers.{Buffers}
@@ -23,7 +23,7 @@ use Rattle.pepa_steps.specs.declared.transitions.StepsEnd.{StepsEnd}
 use Rattle.pepa_steps.specs.declared.transitions.StepsEnd.TheVariants.{Fault, Memory}
 use Rattle.pepa_steps.proofs.Aims.{get_some}
 use Rattle.pepa_steps.proofs.Alikes.{zip_count}
-use Rattle.pepa_steps.proofs.Loads.{entries_same, zip_right, get_map}
+use Rattle.pepa_steps.proofs.CoopTargets.{entries_same, zip_right, get_map}
 use Rattle.pepa_steps.proofs.NodeLists.{all_same}
 use Rattle.pepa_steps.proofs.OneState.{one_list}
 use Rattle.pepa_steps.proofs.StateLists.{transition_list}
@@ -53,7 +53,7 @@ module _ (m : PepaModel) (sound : IsModel m) (node : TermNode) where
       record {
         fine = (tree, opens, h.fine);
         transitions = moves_in tree;
-        listed = transition_list m.bodies state tree opens (state_without_tau m sound state node tree stands opens) (all_same IsFinePart HasFineRates (λ part fine. fine.rates) (parts_in tree) h.fine);
+        listed = transition_list m.bodies state tree opens (state_without_tau m sound state node tree stands opens) (all_same IsFinePart HasFineStateRates (λ part fine. fine.rates) (parts_in tree) h.fine);
         moves = h.moves;
       }
 
@@ -62,7 +62,7 @@ module _ (m : PepaModel) (sound : IsModel m) (node : TermNode) where
       let of = are_of found.rates.entries h.steps h.part state stands in
       (of.fine, (of.transitions, of.listed, h.entries ∙ ap (λ (l : List Entry). l ++ map entry_of h.steps) none ∙ entries_same (LeadsTo m) h.steps of.transitions of.moves))
 
-  pub list_end : (end : StepsEnd) → IsFaultOf m node end → (state : State) → NodeStandsFor m state node → (entries : List Entry) → IsListAnswer m state entries (Err end)
+  pub list_end : (end : StepsEnd) → IsPartFaultOf m node end → (state : State) → NodeStandsFor m state node → (entries : List Entry) → IsListAnswer m state entries (Err end)
   list_end (Fault name) answers state stands entries =
       let (tree, opens) = state_opens m sound state node stands in
       let h = answers state tree stands opens in

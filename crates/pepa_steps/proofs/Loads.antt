@@ -1,10 +1,10 @@
 -- What the buffers hold of a term, from what they hold of its parts.
-use Rattle.std.proofs.Common.{◌≡◌, ◌==◌, ℕ, zero, suc, ◌+◌, ◌-◌, ◌<◌, ◌≤◌, true, not, List, [], ◌∷◌, ◌++◌, map, filter, flat_map, length, slice_get, slice_index_or, Some, Result, Ok, Err}
+use Rattle.std.proofs.Common.{◌≡◌, ◌==◌, ℕ, zero, suc, ◌+◌, ◌-◌, ◌<◌, ◌≤◌, true, not, List, [], ◌∷◌, ◌++◌, map, filter, length, slice_get, Some, Result, Ok, Err}
 use Rattle.std.proofs.Common.{refl, sym, ap, subst, ◌∙◌, append_assoc, inl, inr, arith}
 use Rattle.std.specs.Prelude.{◌⊎◌}
 use Rattle.std.specs.List.{AllByRecursion, AllZip, Contains}
-use Rattle.std.proofs.lemmas.Option.{slice_get-get_or, get_or_from_slice_get}
-use Rattle.std.proofs.lemmas.List.{append-nil, map-append, length-append, length-map}
+use Rattle.std.proofs.lemmas.Option.{get_or_from_slice_get}
+use Rattle.std.proofs.lemmas.List.{append-nil, length-append, length-map}
 use Rattle.pepa_rates.specs.Fraction.{InRange}
 use Rattle.pepa_rates.specs.Share.{SameKind}
 use Rattle.pepa_rates.specs.Sum.{fraction_of}
@@ -14,22 +14,21 @@ use Rattle.pepa_model.specs.PepaModel.{PepaModel, IsModel}
 use Rattle.pepa_model.specs.Verdict.{IsFirstFault}
 use Rattle.pepa_model.specs.Terms.{TermNode, LeafNode, CoopNode, HideNode, IsNodeOf}
 use Rattle.pepa_model.specs.declared.term.Activity.{Activity}
-use Rattle.pepa_steps.specs.Moves.{Move, has, carry, alone, joined_to, joint, cooperation, hidden}
+use Rattle.pepa_steps.specs.Moves.{Move, has, carry, outside_set, joints_with, under_hiding}
 use Rattle.pepa_steps.specs.Alike.{Alike}
 use Rattle.pepa_steps.specs.States.{State, Cooperating, Hiding, NodeStandsFor}
 use Rattle.pepa_steps.specs.OpenStates.{OpenState, LeafOpen, CoopOpen, HideOpen, OpensState, parts_in, apparent_in, moves_in}
-use Rattle.pepa_steps.specs.StateVerdict.{PartFault, OfRates, OfLength, OfDerivation, HasFineRates, IsFinePart, HasPartFault}
+use Rattle.pepa_steps.specs.StateVerdict.{PartFault, OfRates, OfLength, OfDerivation, HasFineStateRates, IsFinePart, HasPartFault}
 use Rattle.pepa_steps.specs.StepsAnswers.{fault_name}
 use Rattle.pepa_steps.specs.ActionRates.{rate_in, AllFine}
 use Rattle.pepa_steps.specs.StateRates.{rates_of_cooperation, rates_of_hiding}
-use Rattle.pepa_steps.specs.Combined.{entry_of, target_of, numbered, rate_at, combined, AreRatedBy, AreMovesInRange}
+use Rattle.pepa_steps.specs.Combined.{entry_of, rate_at, combined, AreRatedBy, AreMovesInRange}
 use Rattle.pepa_steps.specs.Hidings.{hidden_entry}
 use Rattle.pepa_steps.specs.KeptRates.{AnswersLeaf}
 use Rattle.pepa_steps.specs.PartAnswers.{StepNode, LeadsTo, IsPartOf, HasFaultOf}
-use Rattle.pepa_steps.specs.Traces.{activity_node, Tells, OriginsTell, beside, Traces, Extends, Loaded, IsFaultOf, AnswersLoad, Ends, IsReady, EndsReady, IsFoundBy, IsMarked, MakesCoop, AnswersCoop, MakesHiding, AnswersHiding}
+use Rattle.pepa_steps.specs.Traces.{activity_node, IsTargetOf, OriginsTell, steps_side_by_side, Traces, Extends, Loaded, IsPartFaultOf, AnswersLoad, Ends, IsReadySide, EndsReady, IsFoundBy, AddsMark, MakesCoop, AnswersCoop, MakesHiding, AnswersHiding}
 use Rattle.pepa_steps.specs.declared.entries.Entry.{Entry}
 use Rattle.pepa_steps.specs.declared.entries.Origin.{Origin}
-use Rattle.pepa_steps.specs.declared.entries.Origin.TheVariants.{Left, Right, Both}
 use Rattle.pepa_steps.specs.declared.buffers.Mark.{Mark}
 use Rattle.pepa_steps.specs.declared.buffers.Mark.TheVariants as mark
 use Rattle.pepa_steps.specs.declared.buffers.Buffers.{Buffers}
@@ -38,122 +37,13 @@ use Rattle.pepa_steps.specs.declared.transitions.StepsEnd.{StepsEnd}
 use Rattle.pepa_steps.specs.declared.transitions.StepsEnd.TheVariants.{Fault, Memory}
 use Rattle.pepa_steps.proofs.Faults.{all_append, first_in_front, first_in_back}
 use Rattle.pepa_steps.proofs.NodeLists.{all_same, all_map, all_filter, all_flat_map}
-use Rattle.pepa_steps.proofs.Alikes.{zip_count, zip_all, zip_all_back, zip_among, cooperation_alike}
+use Rattle.pepa_steps.proofs.Alikes.{zip_count, zip_all, zip_all_back, zip_among}
 use Rattle.pepa_steps.proofs.StateLists.{closed_is, move_rated}
 use Rattle.pepa_steps.proofs.StateOpens.{stands_for_one, state_opens, state_from_parts}
 use Rattle.pepa_steps.proofs.StateParts.{Agrees, part_found, part_ends}
 use Rattle.pepa_steps.proofs.CoopStates.{coop_steps, hide_steps, types_same, has_positive, cooperation_agrees, hiding_agrees}
 use Rattle.pepa_steps.proofs.LeafParts.{leaf_found, leaf_targets}
-
--- ---- what stands at a place
-
-pub get_kept : {X : Type 0} (xs more : List X) (i : ℕ) (x : X) → slice_get xs i ≡ Some x → slice_get (xs ++ more) i ≡ Some x
-get_kept [] more i x h = absurd cc
-get_kept (y ∷ xs) more zero x h = h
-get_kept (y ∷ xs) more (suc i) x h = get_kept xs more i x h
-
-get_last : {X : Type 0} (xs : List X) (x : X) → slice_get (xs ++ x ∷ []) (length xs) ≡ Some x
-get_last [] x = refl
-get_last (y ∷ xs) x = get_last xs x
-
-get_behind : {X : Type 0} (xs ys : List X) (i : ℕ) → slice_get (xs ++ ys) (length xs + i) ≡ slice_get ys i
-get_behind [] ys i = let same : 0 + i ≡ i = omega arith in ap (slice_get ys) same
-get_behind (x ∷ xs) ys i = let same : suc (length xs) + i ≡ suc (length xs + i) = omega arith in ap (slice_get (x ∷ (xs ++ ys))) same ∙ get_behind xs ys i
-
-pub get_map : {X Y : Type 0} (f : X → Y) (xs : List X) (i : ℕ) (x : X) → slice_get xs i ≡ Some x → slice_get (map f xs) i ≡ Some (f x)
-get_map f [] i x h = absurd cc
-get_map f (y ∷ xs) zero x h = cc
-get_map f (y ∷ xs) (suc i) x h = get_map f xs i x h
-
-pub zip_right : {X Y : Type 0} (R : X → Y → Type 0) (xs : List X) (ys : List Y) (i : ℕ) (y : Y) → AllZip R xs ys → slice_get ys i ≡ Some y → (x : X) × (slice_get xs i ≡ Some x) × R x y
-zip_right R [] [] i y h k = absurd cc
-zip_right R [] (v ∷ ys) i y h k = absurd h
-zip_right R (x ∷ xs) [] i y h k = absurd h
-zip_right R (x ∷ xs) (v ∷ ys) zero y h k = let same : v ≡ y = cc in (x, refl, subst (R x) same h.0)
-zip_right R (x ∷ xs) (v ∷ ys) (suc i) y h k = zip_right R xs ys i y h.1 k
-
--- what stands at the place leads there
-abbrev PlaceIn : {X : Type 0} → List (Move X) → ℕ → X → Type 0
-PlaceIn {X} all i x = (v : Move X) × (slice_get all i ≡ Some v) × (v.target ≡ x)
-
-module _ {X : Type 0} (all : List (Move X)) where
-  numbered_alike : (at : ℕ) (us : List (Move X)) → ((i : ℕ) (u : Move X) → slice_get us i ≡ Some u → slice_get all (at + i) ≡ Some u) → AllZip (Alike (PlaceIn all)) (numbered at (map entry_of us)) us
-  numbered_alike at [] here = tt
-  numbered_alike at (u ∷ us) here = (
-    record { action = refl; signals = refl; rate = refl; target = (u, subst (λ (n : ℕ). slice_get all n ≡ Some u) (omega arith) (here 0 u refl), refl) },
-    numbered_alike (at + 1) us (λ i v e. let same : at + suc i ≡ (at + 1) + i = omega arith in subst (λ (n : ℕ). slice_get all n ≡ Some v) same (here (suc i) v e)),
-  )
-
-  places_alike : AllZip (Alike (PlaceIn all)) (numbered 0 (map entry_of all)) all
-  places_alike = numbered_alike 0 all (λ i u e. let same : i ≡ 0 + i = omega arith in subst (λ (n : ℕ). slice_get all n ≡ Some u) same e)
-
-pub entries_same : {X Y : Type 0} (R : X → Y → Type 0) (us : List (Move X)) (vs : List (Move Y)) → AllZip (Alike R) us vs → map entry_of us ≡ map entry_of vs
-entries_same R [] [] h = refl
-entries_same R [] (v ∷ vs) h = absurd h
-entries_same R (u ∷ us) [] h = absurd h
-entries_same R (u ∷ us) (v ∷ vs) h =
-    ap (λ (n : ℕ). record { action = n; signals = u.signals; rate = u.rate } ∷ map entry_of us) h.0.action
-    ∙ ap (λ (n : ℕ). record { action = v.action; signals = n; rate = u.rate } ∷ map entry_of us) h.0.signals
-    ∙ ap (λ (r : Rate). record { action = v.action; signals = v.signals; rate = r } ∷ map entry_of us) h.0.rate
-    ∙ ap (λ (l : List Entry). entry_of v ∷ l) (entries_same R us vs h.1)
-
--- ---- the steps of a cooperation, and what the origins of its entries tell
-
-module _ (types : List ℕ) (set : ℕ) (x y : TermNode) (l r : List (ℕ × Rate)) (us vs : List StepNode) where
-  abbrev whole : List StepNode
-  whole = coop_steps types set x y l r us vs
-
-  abbrev made : List (Move Origin)
-  made = combined types l r (map entry_of us) (map entry_of vs)
-
-  pub tells : AllZip (Alike (Tells x y set us vs)) made whole
-  tells =
-      cooperation_alike (PlaceIn us) (PlaceIn vs) (Tells x y set us vs) Left Right Both (λ a. CoopNode a y set) (λ b. CoopNode x b set) (λ a b. CoopNode a b set)
-      (λ i a (v, at, is). (v, at, ap (λ (n : TermNode). CoopNode n y set) (sym is)))
-      (λ j b (v, at, is). (v, at, ap (λ (n : TermNode). CoopNode x n set) (sym is)))
-      (λ i a j b (u, at, is) (v, at_too, is_too). (u, v, at, at_too, ap (λ (n : TermNode). CoopNode n b set) (sym is) ∙ ap (λ (n : TermNode). CoopNode u.target n set) (sym is_too)))
-      types (rate_at l) (rate_at l) (rate_at r) (rate_at r) (λ a h. refl) (λ a h. refl) _ _ _ _ (places_alike us) (places_alike vs)
-
-  pub made_entries : map entry_of made ≡ map entry_of whole
-  made_entries = entries_same (Tells x y set us vs) made whole tells
-
-  -- origins that are pushed tell of the steps
-  pub pushed_origins : (old new : List Origin) → new ≡ old ++ map target_of made → OriginsTell new (length old) x y set us vs whole
-  pushed_origins old new is i w at =
-      let found = zip_right (Alike (Tells x y set us vs)) made whole i w tells at in
-      (found.0.target, ap (λ (o : List Origin). slice_get o (length old + i)) is ∙ get_behind old (map target_of made) i ∙ get_map target_of made i found.0 found.1, found.2.target)
-
--- over no types they are those of both sides, one behind the other
-all_alone : {X : Type 0} (us : List (Move X)) → alone [] us ≡ us
-all_alone [] = refl
-all_alone (u ∷ us) = ap (λ l. u ∷ l) (all_alone us)
-
-none_shared : {X : Type 0} (us : List (Move X)) → filter (λ u. has [] u.action) us ≡ []
-none_shared [] = refl
-none_shared (u ∷ us) = none_shared us
-
-carried : {X Y : Type 0} (f : X → Y) (us : List (Move X)) → map entry_of (map (carry f) us) ≡ map entry_of us
-carried f [] = refl
-carried f (u ∷ us) = ap (λ l. entry_of u ∷ l) (carried f us)
-
-pub side_by_side : {X Y Z : Type 0} (left : X → Z) (right : Y → Z) (both : X → Y → Z) (ra rb : ℕ → Rate) (us : List (Move X)) (vs : List (Move Y))
-    → cooperation left right both [] ra rb us vs ≡ map (carry left) us ++ map (carry right) vs
-side_by_side {X} {Y} {Z} left right both ra rb us vs =
-    ap (λ (l : List (Move X)). (map (carry left) l ++ map (carry right) (alone [] vs)) ++ joint both [] ra rb us vs) (all_alone us)
-    ∙ ap (λ (l : List (Move Y)). (map (carry left) us ++ map (carry right) l) ++ joint both [] ra rb us vs) (all_alone vs)
-    ∙ ap (λ (l : List (Move X)). (map (carry left) us ++ map (carry right) vs) ++ flat_map (joined_to both ra rb vs) l) (none_shared us)
-    ∙ append-nil (map (carry left) us ++ map (carry right) vs)
-
-numbered_entries : (at : ℕ) (es : List Entry) → map entry_of (numbered at es) ≡ es
-numbered_entries at [] = refl
-numbered_entries at (e ∷ es) = ap (λ l. e ∷ l) (numbered_entries (at + 1) es)
-
-pub beside_entries : (l r : List (ℕ × Rate)) (us vs : List Entry) → map entry_of (combined [] l r us vs) ≡ us ++ vs
-beside_entries l r us vs =
-    ap (map entry_of) (side_by_side Left Right Both (rate_at l) (rate_at r) (numbered 0 us) (numbered 0 vs))
-    ∙ map-append entry_of (map (carry Left) (numbered 0 us)) (map (carry Right) (numbered 0 vs))
-    ∙ ap (λ (e : List Entry). e ++ map entry_of (map (carry Right) (numbered 0 vs))) (carried Left (numbered 0 us) ∙ numbered_entries 0 us)
-    ∙ ap (λ (e : List Entry). us ++ e) (carried Right (numbered 0 vs) ∙ numbered_entries 0 vs)
+use Rattle.pepa_steps.proofs.CoopTargets.{get_kept, get_last, tells, made_entries, pushed_origins, side_by_side}
 
 -- ---- marks and origins, behind which more stands
 
@@ -162,8 +52,8 @@ module _ (m : PepaModel) (marks marks_more : List Mark) (origins origins_more : 
   traces_kept (LeafNode n) at ws h = h
   traces_kept (CoopNode x y set) at ws (l, r, n, us, vs, of_x, of_y, here) = (l, r, n, us, vs, traces_kept x l us of_x, traces_kept y r vs of_y, of_case here)
     where
-      of_case : ((slice_get marks at ≡ Some (mark.Beside l r n)) × (n ≡ length us) × (ws ≡ beside x y set us vs)) ⊎ ((slice_get marks at ≡ Some (mark.Joined l r n)) × OriginsTell origins n x y set us vs ws)
-          → ((slice_get (marks ++ marks_more) at ≡ Some (mark.Beside l r n)) × (n ≡ length us) × (ws ≡ beside x y set us vs)) ⊎ ((slice_get (marks ++ marks_more) at ≡ Some (mark.Joined l r n)) × OriginsTell (origins ++ origins_more) n x y set us vs ws)
+      of_case : ((slice_get marks at ≡ Some (mark.Beside l r n)) × (n ≡ length us) × (ws ≡ steps_side_by_side x y set us vs)) ⊎ ((slice_get marks at ≡ Some (mark.Joined l r n)) × OriginsTell origins n x y set us vs ws)
+          → ((slice_get (marks ++ marks_more) at ≡ Some (mark.Beside l r n)) × (n ≡ length us) × (ws ≡ steps_side_by_side x y set us vs)) ⊎ ((slice_get (marks ++ marks_more) at ≡ Some (mark.Joined l r n)) × OriginsTell (origins ++ origins_more) n x y set us vs ws)
       of_case (inl (is, count, whole)) = inl (get_kept marks marks_more at _ is, count, whole)
       of_case (inr (is, tell)) = inr (get_kept marks marks_more at _ is, λ i w e. let h = tell i w e in (h.0, get_kept origins origins_more (n + i) _ h.1, h.2))
   traces_kept (HideNode x set) at ws (us, of_x, is) = (us, traces_kept x at us of_x, is)
@@ -214,7 +104,7 @@ among_entries (u ∷ us) e (suc k, lt, is) =
     (v, (suc among.0, omega (arith, among.1), among.2), same)
 
 module _ (m : PepaModel) (sound : IsModel m) where
-  ready_of : (types : List ℕ) → AllByRecursion (λ a. 0 < a) types → (tree : OpenState) (rates : List (ℕ × Rate)) (us : List StepNode) → IsPartOf m tree rates us → IsReady types rates (map entry_of us)
+  ready_of : (types : List ℕ) → AllByRecursion (λ a. 0 < a) types → (tree : OpenState) (rates : List (ℕ × Rate)) (us : List StepNode) → IsPartOf m tree rates us → IsReadySide types rates (map entry_of us)
   ready_of types positive tree rates us h =
       let whole = state_from_parts IsFinePart tree h.fine in
       let count : length us ≡ length (moves_in tree) = zip_count (Alike (LeadsTo m)) us (moves_in tree) h.moves in
@@ -227,7 +117,7 @@ module _ (m : PepaModel) (sound : IsModel m) where
             (λ u t a range. subst (λ (r : Rate). InRange (fraction_of r)) (sym a.rate) range) us (moves_in tree) h.moves whole.in_range);
       }
     where
-      all_fine : HasFineRates tree → AllFine rates
+      all_fine : HasFineStateRates tree → AllFine rates
       all_fine fine zero = subst IsFine (sym h.rates_are.no_tau) tt
       all_fine fine (suc n) = subst IsFine (sym (h.rates_are.each (suc n) (omega arith))) (fine (suc n) (omega arith))
 
@@ -236,7 +126,7 @@ module _ (m : PepaModel) (sound : IsModel m) where
           let above : 0 < u.action = has_positive types positive u.action has_it in
           let (t, among, alike) = zip_among (Alike (LeadsTo m)) us (moves_in tree) h.moves u there in
           let above_too : 0 < t.action = omega (arith, above, alike.action) in
-          let known = move_rated tree (all_same IsFinePart HasFineRates (λ part fine. fine.rates) (parts_in tree) h.fine) t among above_too in
+          let known = move_rated tree (all_same IsFinePart HasFineStateRates (λ part fine. fine.rates) (parts_in tree) h.fine) t among above_too in
           (known.rate, h.rates_are.each u.action above ∙ ap (apparent_in tree) alike.action ∙ known.rated, subst (λ (r : Rate). SameKind r known.rate) (sym alike.rate) known.kind)
 
       rated : AreRatedBy types rates (map entry_of us)
@@ -245,15 +135,12 @@ module _ (m : PepaModel) (sound : IsModel m) where
           let own = rated_step u among (subst (λ (x : Entry). has types x.action ≡ true) same has_it) in
           subst (λ (x : Entry). (rate : Rate) × (rate_in rates x.action ≡ Rated rate) × SameKind x.rate rate) (sym same) own
 
+  -- the types of a set aren't `tau`
   set_positive : (number : ℕ) (set : List ℕ) → slice_get m.sets number ≡ Some set → AllByRecursion (λ a. 0 < a) set
   set_positive number set is = (sound.sets number set is).no_tau
 
-  -- the types of a set that the program has by its number
-  types_positive : (number : ℕ) (types : List ℕ) → types ≡ slice_index_or m.sets number [] → number < length m.sets → AllByRecursion (λ a. 0 < a) types
-  types_positive number types are known = subst (λ (x : List ℕ). AllByRecursion (λ a. 0 < a) x) (sym are) (set_positive number (slice_index_or m.sets number []) (slice_get-get_or m.sets number [] known))
-
   ready_loaded : (types : List ℕ) → AllByRecursion (λ a. 0 < a) types → (node : TermNode) → IsNodeOf m node → (old new : Buffers) (found : Found) (h : Loaded m node old new found)
-      → IsReady types found.rates.entries (map entry_of h.steps)
+      → IsReadySide types found.rates.entries (map entry_of h.steps)
   ready_loaded types positive node known old new found h =
       let (state, stands) = stands_for_one m node known in
       let (tree, opens) = state_opens m sound state node stands in
@@ -287,24 +174,24 @@ module _ (m : PepaModel) (sound : IsModel m) where
 
     -- what is an end for each state of a cooperation is one of the term
     on_sides : (name : _) → ((p q : State) (s t : OpenState) (set : List ℕ) → NodeStandsFor m p x → NodeStandsFor m q y → OpensState m.bodies p s → OpensState m.bodies q t → slice_get m.sets number ≡ Some set
-        → (fault : PartFault) × IsFirstFault IsFinePart HasPartFault (parts_in (CoopOpen s t set)) fault × (name ≡ fault_name fault)) → IsFaultOf m node (Fault name)
-    on_sides name h = subst (λ (n : TermNode). IsFaultOf m n (Fault name)) (sym is) of_state
+        → (fault : PartFault) × IsFirstFault IsFinePart HasPartFault (parts_in (CoopOpen s t set)) fault × (name ≡ fault_name fault)) → IsPartFaultOf m node (Fault name)
+    on_sides name h = subst (λ (n : TermNode). IsPartFaultOf m n (Fault name)) (sym is) of_state
       where
-        of_state : IsFaultOf m (CoopNode x y number) (Fault name)
+        of_state : IsPartFaultOf m (CoopNode x y number) (Fault name)
         of_state (Cooperating p q set) (CoopOpen s t other) (of_p, of_q, at) (opens_p, opens_q, same) =
             subst (λ (o : List ℕ). (fault : PartFault) × IsFirstFault IsFinePart HasPartFault (parts_in (CoopOpen s t o)) fault × (name ≡ fault_name fault)) (sym same) (h p q s t set of_p of_q opens_p opens_q at)
         of_state (Cooperating p q set) (LeafOpen o) stands opens = absurd opens
         of_state (Cooperating p q set) (HideOpen s other) stands opens = absurd opens
         of_state state tree stands opens = absurd stands
 
-    pub left_end : (end : StepsEnd) → IsFaultOf m x end → IsFaultOf m node end
+    pub left_end : (end : StepsEnd) → IsPartFaultOf m x end → IsPartFaultOf m node end
     left_end (Fault name) ends = on_sides name (λ p q s t set of_p of_q opens_p opens_q at.
         let h = ends p s of_p opens_p in
         (h.0, first_in_front IsFinePart HasPartFault h.0 (parts_in s ++ parts_in t) (CoopOpen s t set ∷ []) (first_in_front IsFinePart HasPartFault h.0 (parts_in s) (parts_in t) h.1), h.2))
     left_end Memory ends = tt
 
     module _ (b0 b1 : Buffers) (l : Found) (of_x : Loaded m x b0 b1 l) where
-      pub right_end : (end : StepsEnd) → IsFaultOf m y end → IsFaultOf m node end
+      pub right_end : (end : StepsEnd) → IsPartFaultOf m y end → IsPartFaultOf m node end
       right_end (Fault name) ends = on_sides name (λ p q s t set of_p of_q opens_p opens_q at.
           let h = ends q t of_q opens_q in
           let before = of_x.part p s of_p opens_p in (
@@ -314,7 +201,7 @@ module _ (m : PepaModel) (sound : IsModel m) where
           ))
       right_end Memory ends = tt
 
-      module _ (b2 : Buffers) (r : Found) (of_y : Loaded m y b1 b2 r) (types : List ℕ) (are : types ≡ slice_index_or m.sets number []) where
+      module _ (b2 : Buffers) (r : Found) (of_y : Loaded m y b1 b2 r) (types : List ℕ) (are : slice_get m.sets number ≡ Some types) where
         abbrev us : List StepNode
         us = of_x.steps
 
@@ -340,23 +227,23 @@ module _ (m : PepaModel) (sound : IsModel m) where
           us = map entry_of us;
           vs = map entry_of vs;
           ends = both_end;
-          left = ready_loaded types (types_positive number types are known.2) x known.0 b0 b1 l of_x;
-          right = ready_loaded types (types_positive number types are known.2) y known.1 b1 b2 r of_y;
+          left = ready_loaded types (set_positive number types are) x known.0 b0 b1 l of_x;
+          right = ready_loaded types (set_positive number types are) y known.1 b1 b2 r of_y;
         }
 
         agrees : (p q : State) (s t : OpenState) (set : List ℕ) → NodeStandsFor m p x → NodeStandsFor m q y → OpensState m.bodies p s → OpensState m.bodies q t → slice_get m.sets number ≡ Some set → types ≡ set
             → Agrees m (rates_of_cooperation types l.rates.entries r.rates.entries) steps (CoopOpen s t types)
         agrees p q s t set of_p of_q opens_p opens_q at same =
             cooperation_agrees m p q s t x y number types l.rates.entries r.rates.entries us vs (of_x.part p s of_p opens_p) (of_y.part q t of_q opens_q) of_p of_q (at ∙ ap (λ (l : List ℕ). Some l) (sym same))
-            (types_positive number types are known.2) (closed_is m.bodies p s opens_p) (closed_is m.bodies q t opens_q)
+            (set_positive number types are) (closed_is m.bodies p s opens_p) (closed_is m.bodies q t opens_q)
 
-        alike : AllZip (Alike (Tells x y number us vs)) combination steps
+        alike : AllZip (Alike (IsTargetOf x y number us vs)) combination steps
         alike = tells types number x y l.rates.entries r.rates.entries us vs
 
-        pub coop_end : (b3 : Buffers) (end : StepsEnd) → ((front us vs : List Entry) → Ends b2.entries.items front us vs l.start r.start → AnswersCoop types front us vs l r b2 b3 (Err end)) → IsFaultOf m node end
+        pub coop_end : (b3 : Buffers) (end : StepsEnd) → ((front us vs : List Entry) → Ends b2.entries.items front us vs l.start r.start → AnswersCoop types front us vs l r b2 b3 (Err end)) → IsPartFaultOf m node end
         coop_end b3 (Fault name) answers =
             let h = answers b0.entries.items (map entry_of us) (map entry_of vs) both_end in
-            let fault = same_fault (Tells x y number us vs) combination steps alike (rates_of_cooperation types l.rates.entries r.rates.entries) h.0 h.1 in
+            let fault = same_fault (IsTargetOf x y number us vs) combination steps alike (rates_of_cooperation types l.rates.entries r.rates.entries) h.0 h.1 in
             on_sides name (λ p q s t set of_p of_q opens_p opens_q at.
             let same = types_same m number types set are at in
             let first = part_ends m (rates_of_cooperation types l.rates.entries r.rates.entries) steps (CoopOpen s t types) (agrees p q s t set of_p of_q opens_p opens_q at same)
@@ -369,25 +256,25 @@ module _ (m : PepaModel) (sound : IsModel m) where
             let stays = λ (u : StepNode). IsNodeOf m u.target in
             all_append stays _ _
             (all_append stays _ _
-            (all_map stays (carry (λ a. CoopNode a y number)) (alone types us)
-            (all_same stays (λ u. IsNodeOf m (CoopNode u.target y number)) (λ u h. (h, known.1, known.2)) (alone types us) (all_filter stays (λ u. not (has types u.action)) us of_x.targets)))
-            (all_map stays (carry (λ b. CoopNode x b number)) (alone types vs)
-            (all_same stays (λ u. IsNodeOf m (CoopNode x u.target number)) (λ u h. (known.0, h, known.2)) (alone types vs) (all_filter stays (λ u. not (has types u.action)) vs of_y.targets))))
-            (all_flat_map stays stays (joined_to (λ a b. CoopNode a b number) (rate_at l.rates.entries) (rate_at r.rates.entries) vs)
+            (all_map stays (carry (λ a. CoopNode a y number)) (outside_set types us)
+            (all_same stays (λ u. IsNodeOf m (CoopNode u.target y number)) (λ u h. (h, known.1, known.2)) (outside_set types us) (all_filter stays (λ u. not (has types u.action)) us of_x.targets)))
+            (all_map stays (carry (λ b. CoopNode x b number)) (outside_set types vs)
+            (all_same stays (λ u. IsNodeOf m (CoopNode x u.target number)) (λ u h. (known.0, h, known.2)) (outside_set types vs) (all_filter stays (λ u. not (has types u.action)) vs of_y.targets))))
+            (all_flat_map stays stays (joints_with (λ a b. CoopNode a b number) (rate_at l.rates.entries) (rate_at r.rates.entries) vs)
             (λ u hu. all_map stays _ (filter (λ v. u.action == v.action) vs)
             (all_same stays (λ v. IsNodeOf m (CoopNode u.target v.target number)) (λ v hv. (hu, hv, known.2)) (filter (λ v. u.action == v.action) vs) (all_filter stays (λ v. u.action == v.action) vs of_y.targets)))
             (filter (λ u. has types u.action) us) (all_filter stays (λ u. has types u.action) us of_x.targets))
 
         module _ (b3 : Buffers) (found : Found) (makes : MakesCoop types b0.entries.items (map entry_of us) (map entry_of vs) l r b2 b3 found) where
-          marks_on : IsMarked types l r combination b2 b3 → Extends b2.marks.items b3.marks.items
+          marks_on : AddsMark types l r combination b2 b3 → Extends b2.marks.items b3.marks.items
           marks_on (inl (none, marks, origins)) = extends_by _ _ _ marks
           marks_on (inr (marks, origins)) = extends_by _ _ _ marks
 
-          origins_on : IsMarked types l r combination b2 b3 → Extends b2.origins.items b3.origins.items
+          origins_on : AddsMark types l r combination b2 b3 → Extends b2.origins.items b3.origins.items
           origins_on (inl (none, marks, origins)) = extends_same _ _ origins
           origins_on (inr (marks, origins)) = extends_by _ _ _ origins
 
-          traced : IsMarked types l r combination b2 b3 → Traces m b3.marks.items b3.origins.items (CoopNode x y number) found.mark steps
+          traced : AddsMark types l r combination b2 b3 → Traces m b3.marks.items b3.origins.items (CoopNode x y number) found.mark steps
           traced marked = (
             l.mark,
             r.mark,
@@ -399,7 +286,7 @@ module _ (m : PepaModel) (sound : IsModel m) where
             of_case marked,
           )
             where
-              start_of : IsMarked types l r combination b2 b3 → ℕ
+              start_of : AddsMark types l r combination b2 b3 → ℕ
               start_of (inl h) = r.start - l.start
               start_of (inr h) = length b2.origins.items
 
@@ -408,8 +295,8 @@ module _ (m : PepaModel) (sound : IsModel m) where
                   let long : r.start ≡ l.start + length (map entry_of us) = of_y.start ∙ ap length of_x.entries ∙ length-append b0.entries.items (map entry_of us) ∙ ap (λ (n : ℕ). n + length (map entry_of us)) (sym of_x.start) in
                   omega (arith, long, length-map us (entry_of {X = TermNode}))
 
-              of_case : (marked : IsMarked types l r combination b2 b3)
-                  → ((slice_get b3.marks.items found.mark ≡ Some (mark.Beside l.mark r.mark (start_of marked))) × (start_of marked ≡ length us) × (steps ≡ beside x y number us vs))
+              of_case : (marked : AddsMark types l r combination b2 b3)
+                  → ((slice_get b3.marks.items found.mark ≡ Some (mark.Beside l.mark r.mark (start_of marked))) × (start_of marked ≡ length us) × (steps ≡ steps_side_by_side x y number us vs))
                   ⊎ ((slice_get b3.marks.items found.mark ≡ Some (mark.Joined l.mark r.mark (start_of marked))) × OriginsTell b3.origins.items (start_of marked) x y number us vs steps)
               of_case (inl (none, marks, origins)) =
                   inl (
@@ -427,7 +314,7 @@ module _ (m : PepaModel) (sound : IsModel m) where
               subst (λ (o : List ℕ). IsPartOf m (CoopOpen s t o) found.rates.entries steps) (here ∙ sym same)
               (part_found m (rates_of_cooperation types l.rates.entries r.rates.entries) steps (CoopOpen s t types) (agrees p q s t set of_p of_q opens_p opens_q at here)
               (parts_in s ++ parts_in t) refl (all_append IsFinePart (parts_in s) (parts_in t) (of_x.part p s of_p opens_p).fine (of_y.part q t of_q opens_q).fine) found.rates.entries
-              (same_found (Tells x y number us vs) combination steps alike (rates_of_cooperation types l.rates.entries r.rates.entries) found.rates.entries makes.found_by))
+              (same_found (IsTargetOf x y number us vs) combination steps alike (rates_of_cooperation types l.rates.entries r.rates.entries) found.rates.entries makes.found_by))
           part (Cooperating p q set) (LeafOpen o) stands opens = absurd opens
           part (Cooperating p q set) (HideOpen s other) stands opens = absurd opens
           part state tree stands opens = absurd stands
@@ -458,25 +345,25 @@ module _ (m : PepaModel) (sound : IsModel m) where
     known_hiding = subst (IsNodeOf m) is known_node
 
     on_inner : (name : _) → ((p : State) (s : OpenState) (set : List ℕ) → NodeStandsFor m p x → OpensState m.bodies p s → slice_get m.sets number ≡ Some set
-        → (fault : PartFault) × IsFirstFault IsFinePart HasPartFault (parts_in (HideOpen s set)) fault × (name ≡ fault_name fault)) → IsFaultOf m node (Fault name)
-    on_inner name h = subst (λ (n : TermNode). IsFaultOf m n (Fault name)) (sym is) of_state
+        → (fault : PartFault) × IsFirstFault IsFinePart HasPartFault (parts_in (HideOpen s set)) fault × (name ≡ fault_name fault)) → IsPartFaultOf m node (Fault name)
+    on_inner name h = subst (λ (n : TermNode). IsPartFaultOf m n (Fault name)) (sym is) of_state
       where
-        of_state : IsFaultOf m (HideNode x number) (Fault name)
+        of_state : IsPartFaultOf m (HideNode x number) (Fault name)
         of_state (Hiding p set) (HideOpen s other) (of_p, at) (opens_p, same) =
             subst (λ (o : List ℕ). (fault : PartFault) × IsFirstFault IsFinePart HasPartFault (parts_in (HideOpen s o)) fault × (name ≡ fault_name fault)) (sym same) (h p s set of_p opens_p at)
         of_state (Hiding p set) (LeafOpen o) stands opens = absurd opens
         of_state (Hiding p set) (CoopOpen s t other) stands opens = absurd opens
         of_state state tree stands opens = absurd stands
 
-    pub inner_end : (end : StepsEnd) → IsFaultOf m x end → IsFaultOf m node end
+    pub inner_end : (end : StepsEnd) → IsPartFaultOf m x end → IsPartFaultOf m node end
     inner_end (Fault name) ends = on_inner name (λ p s set of_p opens at.
         let h = ends p s of_p opens in
         (h.0, first_in_front IsFinePart HasPartFault h.0 (parts_in s) (HideOpen s set ∷ []) h.1, h.2))
     inner_end Memory ends = tt
 
-    module _ (b0 b1 : Buffers) (inner : Found) (of_x : Loaded m x b0 b1 inner) (types : List ℕ) (are : types ≡ slice_index_or m.sets number []) where
+    module _ (b0 b1 : Buffers) (inner : Found) (of_x : Loaded m x b0 b1 inner) (types : List ℕ) (are : slice_get m.sets number ≡ Some types) where
       pub inner_fine : AllFine inner.rates.entries
-      inner_fine = (ready_loaded types (types_positive number types are known_hiding.1) x known_hiding.0 b0 b1 inner of_x).fine
+      inner_fine = (ready_loaded types (set_positive number types are) x known_hiding.0 b0 b1 inner of_x).fine
 
       pub inner_within : inner.start ≤ length b1.entries.items
       inner_within = let long = ap length of_x.entries ∙ length-append b0.entries.items (map entry_of of_x.steps) in omega (arith, long, of_x.start)
@@ -488,7 +375,7 @@ module _ (m : PepaModel) (sound : IsModel m) where
           → Agrees m (rates_of_hiding types inner.rates.entries) hidden_list (HideOpen s types)
       hides p s set of_p opens at same = hiding_agrees m s number types inner.rates.entries of_x.steps (of_x.part p s of_p opens) (at ∙ ap (λ (l : List ℕ). Some l) (sym same))
 
-      hide_end : (b2 : Buffers) (end : StepsEnd) → AnswersHiding types inner b1 b2 (Err end) → IsFaultOf m node end
+      hide_end : (b2 : Buffers) (end : StepsEnd) → AnswersHiding types inner b1 b2 (Err end) → IsPartFaultOf m node end
       hide_end b2 (Fault name) (fault, least, is_name) = on_inner name (λ p s set of_p opens at.
           let same = types_same m number types set are at in
           let first = part_ends m (rates_of_hiding types inner.rates.entries) hidden_list (HideOpen s types) (hides p s set of_p opens at same) (parts_in s) refl (of_x.part p s of_p opens).fine (OfRates fault) least in
@@ -500,7 +387,7 @@ module _ (m : PepaModel) (sound : IsModel m) where
       hidden_entries (u ∷ us) = ap (λ l. hidden_entry types (entry_of u) ∷ l) (hidden_entries us)
 
       hidden_count : length hidden_list ≡ length of_x.steps
-      hidden_count = length-map of_x.steps (hidden {X = TermNode} {Y = TermNode} (λ a. HideNode a number) types)
+      hidden_count = length-map of_x.steps (under_hiding {X = TermNode} {Y = TermNode} (λ a. HideNode a number) types)
 
       module _ (b2 : Buffers) (found : Found) (makes : MakesHiding types inner b1 b2 found) where
         hide_part : (state : State) (tree : OpenState) → NodeStandsFor m state (HideNode x number) → OpensState m.bodies state tree → IsPartOf m tree found.rates.entries hidden_list
@@ -515,7 +402,7 @@ module _ (m : PepaModel) (sound : IsModel m) where
               fine = makes.fine;
               rates_are = makes.rates_are;
               short = omega (arith, count, whole.short, hidden_count);
-              in_range = all_map (λ u. InRange (fraction_of u.rate)) (hidden (λ a. HideNode a number) types) of_x.steps
+              in_range = all_map (λ u. InRange (fraction_of u.rate)) (under_hiding (λ a. HideNode a number) types) of_x.steps
                   (zip_all_back (Alike (LeadsTo m)) (λ u. InRange (fraction_of u.rate)) (λ t. InRange (fraction_of t.rate))
                   (λ u t a range. subst (λ (r : Rate). InRange (fraction_of r)) (sym a.rate) range) of_x.steps (moves_in s) own.moves whole.in_range);
             }))
@@ -534,9 +421,9 @@ module _ (m : PepaModel) (sound : IsModel m) where
             of_x.steps,
             subst (λ (at : ℕ). Traces m b2.marks.items b2.origins.items x at of_x.steps) (sym makes.mark_is)
                 (kept_by m x inner.mark of_x.steps _ _ _ _ (extends_same _ _ makes.marks) (extends_same _ _ makes.origins) of_x.traced),
-            ap (λ (ts : List ℕ). hide_steps ts number of_x.steps) are,
+            ap (λ (ts : List ℕ). hide_steps ts number of_x.steps) (sym (get_or_from_slice_get m.sets number types [] are)),
           );
-          targets = all_map (λ u. IsNodeOf m u.target) (hidden (λ a. HideNode a number) types) of_x.steps
+          targets = all_map (λ u. IsNodeOf m u.target) (under_hiding (λ a. HideNode a number) types) of_x.steps
               (all_same (λ u. IsNodeOf m u.target) (λ u. IsNodeOf m (HideNode u.target number)) (λ u h. (h, known_hiding.1)) of_x.steps of_x.targets);
           part = hide_part;
         }

@@ -11,7 +11,7 @@ use Rattle.pepa_rates.specs.declared.rate.Rate.{Rate}
 use Rattle.pepa_rates.specs.declared.rate.Rate.TheVariants.{Active, Passive}
 use Rattle.pepa_model.specs.Apparent.{Apparent, NoRate, Rated, Undefined, IsFine}
 use Rattle.pepa_steps.specs.States.{has}
-use Rattle.pepa_steps.specs.OpenStates.{jointly}
+use Rattle.pepa_steps.specs.OpenStates.{least_if_both}
 use Rattle.pepa_steps.specs.ActionRates.{rate_in}
 use Rattle.pepa_steps.specs.CooperationRates.{SetsRate, left_rate}
 use Rattle.pepa_steps.proofs.RateMaps.{at_other, at_own, same_action, below_action, above_action, none_behind}
@@ -87,10 +87,10 @@ seen types a x is = ap (λ (b : Bool). if b then NoRate else x) is
 -- ---- the left side of a cooperation
 
 pub left_alone : (types : List ℕ) (right : List (ℕ × Rate)) (a : ℕ) (x : Apparent) → has types a ≡ false → left_rate types right a x ≡ x
-left_alone types right a x is = ap (λ (b : Bool). if b then jointly x (rate_in right a) else x) is
+left_alone types right a x is = ap (λ (b : Bool). if b then least_if_both x (rate_in right a) else x) is
 
-pub left_jointly : (types : List ℕ) (right : List (ℕ × Rate)) (a : ℕ) (x y : Apparent) → has types a ≡ true → rate_in right a ≡ y → left_rate types right a x ≡ jointly x y
-left_jointly types right a x y is same = ap (λ (b : Bool). if b then jointly x (rate_in right a) else x) is ∙ ap (λ (z : Apparent). jointly x z) same
+pub left_jointly : (types : List ℕ) (right : List (ℕ × Rate)) (a : ℕ) (x y : Apparent) → has types a ≡ true → rate_in right a ≡ y → left_rate types right a x ≡ least_if_both x y
+left_jointly types right a x y is same = ap (λ (b : Bool). if b then least_if_both x (rate_in right a) else x) is ∙ ap (λ (z : Apparent). least_if_both x z) same
 
 lesser_in_range : (p q : Fraction) → InRange p → InRange q → InRange (lesser_of p q)
 lesser_in_range p q h k = of_test (less q p)
@@ -105,7 +105,7 @@ least_in_range (Passive p) (Passive q) h k = lesser_in_range p q h k
 least_in_range (Active p) (Passive q) h k = h
 least_in_range (Passive p) (Active q) h k = k
 
-pub jointly_fine : (x y : Apparent) → IsFine x → IsFine y → IsFine (jointly x y)
+pub jointly_fine : (x y : Apparent) → IsFine x → IsFine y → IsFine (least_if_both x y)
 jointly_fine NoRate y h k = tt
 jointly_fine (Rated r) NoRate h k = tt
 jointly_fine (Rated r) (Rated s) h k = least_in_range r s h k

@@ -9,7 +9,7 @@ use Rattle.pepa_model.proofs.OneList.{one_opening, each_among}
 use Rattle.pepa_model.proofs.OneList as leaves
 use Rattle.pepa_steps.specs.States.{State, AtLeaf, Cooperating, Hiding, StateTransition}
 use Rattle.pepa_steps.specs.OpenStates.{OpenState, LeafOpen, CoopOpen, HideOpen, OpensState, apparent_in, leaf_move, left_move, right_move, joint_move, hidden_move}
-use Rattle.pepa_steps.specs.Rules.{StateDerivation, OfLeaf, OnLeft, OnRight, OnBoth, Under, HasApparent, Concludes, Precedes, InOrder, IsTransitionList}
+use Rattle.pepa_steps.specs.Rules.{StateDerivation, OfLeaf, OnLeft, OnRight, OnBoth, Under, HasApparent, StateConcludes, StatePrecedes, InOrder, IsTransitionList}
 
 -- ---- trees
 
@@ -50,7 +50,7 @@ same_joint set ra ra' rb rb' u u' v v' same_u same_v same_ra same_rb =
 
 -- a derivation concludes one transition of a state
 module _ (definitions : List Definition) where
-  pub same_conclusion : (d : StateDerivation) (state : State) (s t : StateTransition) → Concludes definitions d state s → Concludes definitions d state t → s ≡ t
+  pub same_conclusion : (d : StateDerivation) (state : State) (s t : StateTransition) → StateConcludes definitions d state s → StateConcludes definitions d state t → s ≡ t
   same_conclusion (OfLeaf d) (AtLeaf e) s t (u, h, s_is) (v, k, t_is) = s_is ∙ ap leaf_move (leaves.same_conclusion definitions d e u v h k) ∙ sym t_is
   same_conclusion (OnLeft d) (Cooperating p q set) s t (u, h, _, s_is) (v, k, _, t_is) = s_is ∙ ap (left_move q set) (same_conclusion d p u v h k) ∙ sym t_is
   same_conclusion (OnRight d) (Cooperating p q set) s t (u, h, _, s_is) (v, k, _, t_is) = s_is ∙ ap (right_move p set) (same_conclusion d q u v h k) ∙ sym t_is
@@ -64,7 +64,7 @@ module _ (definitions : List Definition) where
   same_conclusion d state s t h k = absurd h
 
 -- no derivation precedes one that precedes it, and none itself
-never_both : (d e : StateDerivation) → Precedes d e → Precedes e d → ⊥
+never_both : (d e : StateDerivation) → StatePrecedes d e → StatePrecedes e d → ⊥
 never_both (OfLeaf d) (OfLeaf e) h k = leaves.never_both d e h k
 never_both (OnLeft d) (OnLeft e) h k = never_both d e h k
 never_both (OnLeft d) (OnRight e) h k = absurd k
@@ -73,10 +73,10 @@ never_both (OnRight d) (OnRight e) h k = never_both d e h k
 never_both (OnRight d) (OnBoth e f) h k = absurd k
 never_both (OnBoth d e) (OnBoth f g) (inl h) (inl k) = never_both d f h k
 never_both (OnBoth d e) (OnBoth f g) (inl h) (inr (same, k)) =
-    let itself : Precedes d d = subst (λ (x : StateDerivation). Precedes d x) same h in
+    let itself : StatePrecedes d d = subst (λ (x : StateDerivation). StatePrecedes d x) same h in
     never_both d d itself itself
 never_both (OnBoth d e) (OnBoth f g) (inr (same, h)) (inl k) =
-    let itself : Precedes d d = subst (λ (x : StateDerivation). Precedes x d) (sym same) k in
+    let itself : StatePrecedes d d = subst (λ (x : StateDerivation). StatePrecedes x d) (sym same) k in
     never_both d d itself itself
 never_both (OnBoth d e) (OnBoth f g) (inr (same, h)) (inr (same', k)) = never_both e g h k
 never_both (Under d) (Under e) h k = never_both d e h k
@@ -94,14 +94,14 @@ same_first d e ds es h k to from = of_cases (to d (inl refl)) (from e (inl refl)
     of_cases : (d ≡ e) ⊎ Among d es → (e ≡ d) ⊎ Among e ds → d ≡ e
     of_cases (inl same) other = same
     of_cases (inr later) (inl same) = sym same
-    of_cases (inr later) (inr later_too) = absurd (never_both d e (each_among (Precedes d) e ds h.0 later_too) (each_among (Precedes e) d es k.0 later))
+    of_cases (inr later) (inr later_too) = absurd (never_both d e (each_among (StatePrecedes d) e ds h.0 later_too) (each_among (StatePrecedes e) d es k.0 later))
 
 within_rest : (d : StateDerivation) (ds es : List StateDerivation) → InOrder (d ∷ ds) → Within (d ∷ ds) (d ∷ es) → Within ds es
 within_rest d ds es h to x among = of_cases (to x (inr among))
   where
     of_cases : (x ≡ d) ⊎ Among x es → Among x es
     of_cases (inl same) =
-        let before : Precedes d d = subst (λ (y : StateDerivation). Precedes d y) same (each_among (Precedes d) x ds h.0 among) in
+        let before : StatePrecedes d d = subst (λ (y : StateDerivation). StatePrecedes d y) same (each_among (StatePrecedes d) x ds h.0 among) in
         absurd (never_both d d before before)
     of_cases (inr later) = later
 
@@ -121,7 +121,7 @@ same_derivations (d ∷ ds) (e ∷ es) h k to from =
 
 module _ (definitions : List Definition) (state : State) where
   abbrev Concluded : StateDerivation → StateTransition → Type 0
-  Concluded d t = Concludes definitions d state t
+  Concluded d t = StateConcludes definitions d state t
 
   has_conclusion : (d : StateDerivation) (ds : List StateDerivation) (ts : List StateTransition) → AllZip Concluded ds ts → Among d ds → (t : StateTransition) × Concluded d t
   has_conclusion d [] ts h k = absurd k

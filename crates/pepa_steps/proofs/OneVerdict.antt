@@ -9,10 +9,10 @@ use Rattle.pepa_model.specs.Verdict.{IsFirstFault}
 use Rattle.pepa_model.proofs.OneList.{faulty_not_fine, same_fault}
 use Rattle.pepa_steps.specs.States.{State}
 use Rattle.pepa_steps.specs.OpenStates.{OpenState, parts_in, apparent_in}
-use Rattle.pepa_steps.specs.StateVerdict.{HasFineRates, IsFinePart, PartFault, OfRates, OfLength, OfDerivation, HasRateFault, HasPartFault, IsWithoutFault, IsVerdict}
+use Rattle.pepa_steps.specs.StateVerdict.{HasFineStateRates, IsFinePart, PartFault, OfRates, OfLength, OfDerivation, HasRateFault, HasPartFault, IsWithoutFault, IsVerdict}
 use Rattle.pepa_steps.proofs.OneState.{one_tree}
 
-rates_not_fine : (p : OpenState) (f : RateFault) → HasRateFault p f → HasFineRates p → ⊥
+rates_not_fine : (p : OpenState) (f : RateFault) → HasRateFault p f → HasFineStateRates p → ⊥
 rates_not_fine p f h k = faulty_not_fine (apparent_in p h.action) f h.faulty (k h.action h.counts)
 
 pub part_not_fine : (p : OpenState) (f : PartFault) → HasPartFault p f → IsFinePart p → ⊥

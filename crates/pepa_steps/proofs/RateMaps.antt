@@ -14,8 +14,8 @@ use Rattle.pepa_rates.specs.declared.rate.RateFault.{RateFault}
 use Rattle.pepa_model.specs.Apparent.{Apparent, NoRate, Rated, Undefined, together, IsFine, HasFault}
 use Rattle.pepa_model.specs.Verdict.{IsLeastFault}
 use Rattle.pepa_steps.specs.ActionRates.{rate_in, AllFine, AddsRate, rates_of_choice, AnswersAddition, AnswersChoice}
-use Rattle.pepa_steps.specs.declared.action_rates.RatesEnd.{RatesEnd}
-use Rattle.pepa_steps.specs.declared.action_rates.RatesEnd.TheVariants.{Fault, Memory}
+use Rattle.fault_ends.specs.declared.end.End.{End}
+use Rattle.fault_ends.specs.declared.end.End.TheVariants.{Fault, Memory}
 use Rattle.pepa_steps.specs.ApparentAnswers.{apparent_of}
 
 -- what is so far and what is left come to the rates of the choice
@@ -126,6 +126,6 @@ module _ (left right all : List (ℕ × Rate)) (action : ℕ) (rate : Rate) (res
           ∙ h.total other
 
   -- the way out of the loop
-  pub stops : (new : List (ℕ × Rate)) (end : RatesEnd) → LoopKeeps left right all ((action, rate) ∷ rest) → AnswersAddition all new action rate (Err end) → AnswersChoice left right (Err end)
+  pub stops : (new : List (ℕ × Rate)) (end : End RateFault) → LoopKeeps left right all ((action, rate) ∷ rest) → AnswersAddition all new action rate (Err end) → AnswersChoice left right (Err end)
   stops new (Fault fault) h faulty = least_fault fault h faulty
   stops new Memory h faulty = tt

@@ -12,9 +12,9 @@ use Rattle.pepa_model.specs.Derivation.{Among, Transition}
 use Rattle.pepa_model.specs.Opened.{Opened, OpenPrefix, OpenChoice, OpenConst, parts, moves}
 use Rattle.pepa_model.specs.Apparent.{Apparent, NoRate, Rated, Undefined, together, apparent_rate, IsFine}
 use Rattle.pepa_steps.specs.States.{has, StateTransition}
-use Rattle.pepa_steps.specs.OpenStates.{OpenState, LeafOpen, CoopOpen, HideOpen, parts_in, jointly, apparent_in, closed_state, rate_of}
+use Rattle.pepa_steps.specs.OpenStates.{OpenState, LeafOpen, CoopOpen, HideOpen, parts_in, least_if_both, apparent_in, closed_state, rate_of}
 use Rattle.pepa_steps.specs.OpenStates.{leaf_move, left_move, right_move, joint_move, hidden_move, moves_in}
-use Rattle.pepa_steps.specs.StateVerdict.{HasFineRates}
+use Rattle.pepa_steps.specs.StateVerdict.{HasFineStateRates}
 use Rattle.pepa_steps.proofs.ElementsOf.{from_append, from_map, from_filter, from_flat_map, among_from_contains, all_of_front, all_of_back, all_of_map}
 
 -- ---- apparent rates of what is done
@@ -77,7 +77,7 @@ with_kind (Active p) f = tt
 with_kind (Passive p) f = tt
 
 -- both sides together
-of_both : (x y : Apparent) (ra rb r s : Rate) → x ≡ Rated ra → y ≡ Rated rb → IsRatedAs (jointly x y) (share_of r (rate_of x) s (rate_of y))
+of_both : (x y : Apparent) (ra rb r s : Rate) → x ≡ Rated ra → y ≡ Rated rb → IsRatedAs (least_if_both x y) (share_of r (rate_of x) s (rate_of y))
 of_both (Rated a) (Rated b) ra rb r s x_is y_is = record { rate = least_of a b; rated = refl; kind = with_kind (least_of a b) _ }
 of_both (Rated a) NoRate ra rb r s x_is y_is = absurd (cc (y_is))
 of_both (Rated a) Undefined ra rb r s x_is y_is = absurd (cc (y_is))
@@ -90,7 +90,7 @@ own_rate : (a : ℕ) (r : Rate) → (if a == a then Rated r else NoRate) ≡ Rat
 own_rate a r = grind (arith, nat_tests)
 
 abbrev FineLeaf : Opened → Type 0
-FineLeaf o = HasFineRates (LeafOpen o)
+FineLeaf o = HasFineStateRates (LeafOpen o)
 
 abbrev IsRatedLeaf : Opened → Type 0
 IsRatedLeaf o = (u : Transition) → Among u (moves o) → 0 < u.action → IsRatedAs (apparent_rate o u.action) u.rate
@@ -135,7 +135,7 @@ else_fine : (b : Bool) (x y : Apparent) → b ≡ false → IsFine (if b then x 
 else_fine true x y is h = absurd cc
 else_fine false x y is h = h
 
-module _ (s t : OpenState) (set : List ℕ) (fine : HasFineRates (CoopOpen s t set)) (left : AreRated s) (right : AreRated t) where
+module _ (s t : OpenState) (set : List ℕ) (fine : HasFineStateRates (CoopOpen s t set)) (left : AreRated s) (right : AreRated t) where
   abbrev Rates : StateTransition → Type 0
   Rates u = 0 < u.action → RatedMove (CoopOpen s t set) u
 
@@ -143,15 +143,15 @@ module _ (s t : OpenState) (set : List ℕ) (fine : HasFineRates (CoopOpen s t s
   left_rated u among outside positive =
       let x : Apparent = apparent_in s u.action in
       let y : Apparent = apparent_in t u.action in
-      let fine_sum = else_fine (has set u.action) (jointly x y) (together x y) outside (fine u.action positive) in
-      of_else (has set u.action) (jointly x y) (together x y) u.rate outside (of_left x y u.rate (left u among positive) fine_sum)
+      let fine_sum = else_fine (has set u.action) (least_if_both x y) (together x y) outside (fine u.action positive) in
+      of_else (has set u.action) (least_if_both x y) (together x y) u.rate outside (of_left x y u.rate (left u among positive) fine_sum)
 
   right_rated : (v : StateTransition) → Among v (moves_in t) → has set v.action ≡ false → Rates (right_move (closed_state s) set v)
   right_rated v among outside positive =
       let x : Apparent = apparent_in s v.action in
       let y : Apparent = apparent_in t v.action in
-      let fine_sum = else_fine (has set v.action) (jointly x y) (together x y) outside (fine v.action positive) in
-      of_else (has set v.action) (jointly x y) (together x y) v.rate outside (of_right x y v.rate (right v among positive) fine_sum)
+      let fine_sum = else_fine (has set v.action) (least_if_both x y) (together x y) outside (fine v.action positive) in
+      of_else (has set v.action) (least_if_both x y) (together x y) v.rate outside (of_right x y v.rate (right v among positive) fine_sum)
 
   both_rated : (u v : StateTransition) → Among u (moves_in s) → Among v (moves_in t) → has set u.action ≡ true → u.action ≡ v.action
       → Rates (joint_move set (rate_of (apparent_in s u.action)) (rate_of (apparent_in t u.action)) u v)
@@ -161,7 +161,7 @@ module _ (s t : OpenState) (set : List ℕ) (fine : HasFineRates (CoopOpen s t s
       let h = left u among_u positive in
       let k = right v among_v (subst (λ (n : ℕ). 0 < n) same positive) in
       let y_is : y ≡ Rated k.rate = subst (λ (n : ℕ). apparent_in t n ≡ Rated k.rate) (sym same) k.rated in
-      of_then (has set u.action) (jointly x y) (together x y) (share_of u.rate (rate_of x) v.rate (rate_of y)) inside (of_both x y h.rate k.rate u.rate v.rate h.rated y_is)
+      of_then (has set u.action) (least_if_both x y) (together x y) (share_of u.rate (rate_of x) v.rate (rate_of y)) inside (of_both x y h.rate k.rate u.rate v.rate h.rated y_is)
 
   abbrev lefts : List StateTransition
   lefts = map (left_move (closed_state t) set) (filter (λ u. not (has set u.action)) (moves_in s))
@@ -231,19 +231,19 @@ leaf_state_rated o rated w among =
     let (u, found, is) = from_map leaf_move w (moves o) among in
     subst (λ (w : StateTransition). 0 < w.action → RatedMove (LeafOpen o) w) (sym is) (rated u found)
 
-pub are_rated : (tree : OpenState) → AllByRecursion HasFineRates (parts_in tree) → AreRated tree
-are_rated (LeafOpen o) fine = leaf_state_rated o (leaf_rated o (all_of_map HasFineRates LeafOpen (parts o) fine))
+pub are_rated : (tree : OpenState) → AllByRecursion HasFineStateRates (parts_in tree) → AreRated tree
+are_rated (LeafOpen o) fine = leaf_state_rated o (leaf_rated o (all_of_map HasFineStateRates LeafOpen (parts o) fine))
 are_rated (CoopOpen s t set) fine =
-    let within = all_of_front HasFineRates (parts_in s ++ parts_in t) (CoopOpen s t set ∷ []) fine in
-    coop_rated s t set (all_of_back HasFineRates (parts_in s ++ parts_in t) (CoopOpen s t set ∷ []) fine).0
-    (are_rated s (all_of_front HasFineRates (parts_in s) (parts_in t) within)) (are_rated t (all_of_back HasFineRates (parts_in s) (parts_in t) within))
-are_rated (HideOpen s set) fine = hiding_rated s set (are_rated s (all_of_front HasFineRates (parts_in s) (HideOpen s set ∷ []) fine))
+    let within = all_of_front HasFineStateRates (parts_in s ++ parts_in t) (CoopOpen s t set ∷ []) fine in
+    coop_rated s t set (all_of_back HasFineStateRates (parts_in s ++ parts_in t) (CoopOpen s t set ∷ []) fine).0
+    (are_rated s (all_of_front HasFineStateRates (parts_in s) (parts_in t) within)) (are_rated t (all_of_back HasFineStateRates (parts_in s) (parts_in t) within))
+are_rated (HideOpen s set) fine = hiding_rated s set (are_rated s (all_of_front HasFineStateRates (parts_in s) (HideOpen s set ∷ []) fine))
 
-pub move_rated : (tree : OpenState) → AllByRecursion HasFineRates (parts_in tree) → (u : StateTransition) → Among u (moves_in tree) → 0 < u.action → IsRated tree u
+pub move_rated : (tree : OpenState) → AllByRecursion HasFineStateRates (parts_in tree) → (u : StateTransition) → Among u (moves_in tree) → 0 < u.action → IsRated tree u
 move_rated tree fine u among positive =
     let h = are_rated tree fine u among positive in
     record { rate = h.rate; rated = h.rated; kind = h.kind }
 
 -- the same for std's word
-pub contained_rated : (tree : OpenState) → AllByRecursion HasFineRates (parts_in tree) → (u : StateTransition) → Contains (moves_in tree) u → 0 < u.action → IsRated tree u
+pub contained_rated : (tree : OpenState) → AllByRecursion HasFineStateRates (parts_in tree) → (u : StateTransition) → Contains (moves_in tree) u → 0 < u.action → IsRated tree u
 contained_rated tree fine u contained positive = move_rated tree fine u (among_from_contains (moves_in tree) u contained) positive

@@ -1,7 +1,6 @@
 -- The apparent rate of one action, from a state's parts.
-use Rattle.std.proofs.Common.{◌≡◌, ℕ, Bool, true, false, List, [], ◌∷◌, ◌++◌, map, Option, None, Some, slice_get, slice_index_or, if◌then◌else◌, Result, Ok, Err, refl, sym, ap, subst, ◌∙◌}
+use Rattle.std.proofs.Common.{◌≡◌, ℕ, Bool, true, false, List, [], ◌∷◌, ◌++◌, map, Option, None, Some, slice_get, if◌then◌else◌, Result, Ok, Err, refl, sym, ap, subst, ◌∙◌}
 use Rattle.std.proofs.lemmas.List.{map-append}
-use Rattle.std.proofs.lemmas.Option.{get_or_from_slice_get}
 use Rattle.pepa_rates.specs.declared.rate.Rate.{Rate}
 use Rattle.pepa_rates.specs.declared.rate.RateFault.{RateFault}
 use Rattle.pepa_model.specs.Expression.{Expression}
@@ -11,9 +10,10 @@ use Rattle.pepa_model.specs.Verdict.{IsFirstFault}
 use Rattle.pepa_model.specs.PepaModel.{PepaModel}
 use Rattle.pepa_model.specs.Terms.{TermNode, LeafNode, CoopNode, HideNode}
 use Rattle.pepa_steps.specs.States.{State, AtLeaf, Cooperating, Hiding, has, NodeStandsFor}
-use Rattle.pepa_steps.specs.OpenStates.{OpenState, LeafOpen, CoopOpen, HideOpen, OpensState, parts_in, apparent_in, jointly}
+use Rattle.pepa_steps.specs.OpenStates.{OpenState, LeafOpen, CoopOpen, HideOpen, OpensState, parts_in, apparent_in, least_if_both}
 use Rattle.pepa_steps.specs.ApparentAnswers.{apparent_of, AnswersOpened}
 use Rattle.pepa_steps.specs.StateRates.{AnswersTree, IsOfCooperation, IsApparentAnswer}
+use Rattle.pepa_steps.proofs.CoopStates.{types_same}
 use Rattle.pepa_steps.proofs.Faults.{all_append, first_in_front, first_in_back, first_at_last}
 use Rattle.pepa_steps.proofs.MappedRates.{jointly_fine}
 use Rattle.pepa_steps.proofs.StateOpens.{all_map, state_from_parts}
@@ -51,18 +51,18 @@ module _ (action : ℕ) where
   of_right s t set rate fault h k =
       first_in_front Fine Faulty fault (parts_in s ++ parts_in t) (CoopOpen s t set ∷ []) (first_in_back Fine Faulty fault (parts_in s) (parts_in t) h.0 k)
 
-  sides : (b : Bool) (x y x' y' : Apparent) → x ≡ x' → y ≡ y' → (if b then jointly x y else together x y) ≡ (if b then jointly x' y' else together x' y')
-  sides b x y x' y' e f = ap (λ (v : Apparent). if b then jointly v y else together v y) e ∙ ap (λ (v : Apparent). if b then jointly x' v else together x' v) f
+  sides : (b : Bool) (x y x' y' : Apparent) → x ≡ x' → y ≡ y' → (if b then least_if_both x y else together x y) ≡ (if b then least_if_both x' y' else together x' y')
+  sides b x y x' y' e f = ap (λ (v : Apparent). if b then least_if_both v y else together v y) e ∙ ap (λ (v : Apparent). if b then least_if_both x' v else together x' v) f
 
   abbrev Both : Bool → Option Rate → Option Rate → Apparent
-  Both b l r = if b then jointly (apparent_of l) (apparent_of r) else together (apparent_of l) (apparent_of r)
+  Both b l r = if b then least_if_both (apparent_of l) (apparent_of r) else together (apparent_of l) (apparent_of r)
 
   -- what is answered of the sides' rates, the sides being in order
   both_fine : (b : Bool) (l r rate : Option Rate) → IsFine (apparent_of l) → IsFine (apparent_of r) → IsOfCooperation b l r (Ok rate)
       → (Both b l r ≡ apparent_of rate) × IsFine (apparent_of rate)
   both_fine true l r rate h k (found, same, is) =
       let it : found ≡ rate = cc in
-      let value : jointly (apparent_of l) (apparent_of r) ≡ apparent_of rate = is ∙ ap apparent_of it in
+      let value : least_if_both (apparent_of l) (apparent_of r) ≡ apparent_of rate = is ∙ ap apparent_of it in
       (value, subst IsFine value (jointly_fine (apparent_of l) (apparent_of r) h k))
   both_fine false l r rate h k both = (both.0, both.1 h k)
 
@@ -136,29 +136,25 @@ module _ (action : ℕ) where
         subst (λ (n : TermNode). Answers n (Err fault)) (sym is)
         (on_sides x y set (Err fault) (λ p q s t types of_x of_y opens_x opens_y at. of_right s t types rate fault (left p s of_x opens_x) (right q t of_y opens_y)))
 
-    -- the types that the program has of a set
-    types_are : (number : ℕ) (types set : List ℕ) → types ≡ slice_index_or m.sets number [] → slice_get m.sets number ≡ Some set → types ≡ set
-    types_are number types set is at = is ∙ get_or_from_slice_get m.sets number set [] at
-
     pub coop_answers : (node x y : TermNode) (set : ℕ) (types : List ℕ) (l r : Option Rate) (result : Result (Option Rate) RateFault) → node ≡ CoopNode x y set
-        → types ≡ slice_index_or m.sets set [] → Answers x (Ok l) → Answers y (Ok r) → IsOfCooperation (has types action) l r result → Answers node result
+        → slice_get m.sets set ≡ Some types → Answers x (Ok l) → Answers y (Ok r) → IsOfCooperation (has types action) l r result → Answers node result
     coop_answers node x y set types l r result is are left right both =
         subst (λ (n : TermNode). Answers n result) (sym is)
         (on_sides x y set result (λ p q s t own of_x of_y opens_x opens_y at. of_sides s t own l r result (left p s of_x opens_x) (right q t of_y opens_y)
-        (subst (λ (set : List ℕ). IsOfCooperation (has set action) l r result) (types_are set types own are at) both)))
+        (subst (λ (set : List ℕ). IsOfCooperation (has set action) l r result) (types_same m set types own are at) both)))
 
     pub inner_fault : (node x : TermNode) (set : ℕ) (fault : RateFault) → node ≡ HideNode x set → Answers x (Err fault) → Answers node (Err fault)
     inner_fault node x set fault is inner =
         subst (λ (n : TermNode). Answers n (Err fault)) (sym is)
         (on_inner x set (Err fault) (λ p s types of_x opens at. first_in_front Fine Faulty fault (parts_in s) (HideOpen s types ∷ []) (inner p s of_x opens)))
 
-    pub hide_answers : (node x : TermNode) (set : ℕ) (types : List ℕ) (b : Bool) (rate shown : Option Rate) → node ≡ HideNode x set → types ≡ slice_index_or m.sets set [] → b ≡ has types action
+    pub hide_answers : (node x : TermNode) (set : ℕ) (types : List ℕ) (b : Bool) (rate shown : Option Rate) → node ≡ HideNode x set → slice_get m.sets set ≡ Some types → b ≡ has types action
         → Answers x (Ok rate) → shown ≡ (if b then None else rate) → Answers node (Ok shown)
     hide_answers node x set types b rate shown is are hides inner shown_is =
         subst (λ (n : TermNode). Answers n (Ok shown)) (sym is)
         (on_inner x set (Ok shown) (λ p s own of_x opens at.
         let h = inner p s of_x opens in
-        let same : b ≡ has own action = hides ∙ ap (λ (l : List ℕ). has l action) (types_are set types own are at) in
+        let same : b ≡ has own action = hides ∙ ap (λ (l : List ℕ). has l action) (types_same m set types own are at) in
         let it = of_test b rate (apparent_in s action) h.1 (state_from_parts Fine s h.0) in
         let value : apparent_in (HideOpen s own) action ≡ apparent_of shown = ap (λ (c : Bool). if c then NoRate else apparent_in s action) (sym same) ∙ it.0 ∙ ap apparent_of (sym shown_is) in
         (all_append Fine (parts_in s) (HideOpen s own ∷ []) h.0 (subst IsFine (ap (λ (c : Bool). if c then NoRate else apparent_in s action) same) it.1, tt), value)))

@@ -11,7 +11,7 @@ use Rattle.pepa_model.specs.Verdict.{IsFirstFault}
 use Rattle.pepa_steps.specs.Alike.{Alike}
 use Rattle.pepa_steps.specs.States.{StateTransition}
 use Rattle.pepa_steps.specs.OpenStates.{OpenState, parts_in, apparent_in, moves_in}
-use Rattle.pepa_steps.specs.StateVerdict.{HasFineRates, AreInRange, IsFinePart, PartFault, OfRates, OfLength, OfDerivation, HasPartFault}
+use Rattle.pepa_steps.specs.StateVerdict.{HasFineStateRates, AreInRange, IsFinePart, PartFault, OfRates, OfLength, OfDerivation, HasPartFault}
 use Rattle.pepa_steps.specs.Combined.{AreMovesInRange}
 use Rattle.pepa_steps.specs.PartAnswers.{StepNode, LeadsTo, IsPartOf, HasFaultOf}
 use Rattle.pepa_steps.specs.Traces.{IsFoundBy}
@@ -34,7 +34,7 @@ module _ (m : PepaModel) where
     pub moves : AllZip (Alike (LeadsTo m)) us (moves_in part)
 
   module _ (of : ℕ → Apparent) (us : List StepNode) (part : OpenState) (agrees : Agrees of us part) where
-    fine_each : ((action : ℕ) → IsFine (of action)) → HasFineRates part
+    fine_each : ((action : ℕ) → IsFine (of action)) → HasFineStateRates part
     fine_each fine action positive = subst IsFine (agrees.each action positive) (fine action)
 
     same_count : length us ≡ length (moves_in part)

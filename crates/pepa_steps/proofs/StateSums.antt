@@ -13,10 +13,10 @@ use Rattle.pepa_model.specs.PepaModel.{PepaModel, IsModel}
 use Rattle.pepa_model.specs.Terms.{term_of}
 use Rattle.pepa_model.specs.declared.term.Term.{Term}
 use Rattle.pepa_steps.specs.States.{State, StateTransition, has, StandsFor}
-use Rattle.pepa_steps.specs.OpenStates.{OpenState, LeafOpen, CoopOpen, HideOpen, OpensState, parts_in, jointly, apparent_in, closed_state, rate_of}
+use Rattle.pepa_steps.specs.OpenStates.{OpenState, LeafOpen, CoopOpen, HideOpen, OpensState, parts_in, least_if_both, apparent_in, closed_state, rate_of}
 use Rattle.pepa_steps.specs.OpenStates.{leaf_move, left_move, right_move, joint_move, hidden_move, moves_in}
 use Rattle.pepa_steps.specs.Rules.{IsTransitionList}
-use Rattle.pepa_steps.specs.StateVerdict.{HasFineRates, IsFinePart, IsWithoutFault, IsApparentRate}
+use Rattle.pepa_steps.specs.StateVerdict.{HasFineStateRates, IsFinePart, IsWithoutFault, IsApparentRate}
 use Rattle.pepa_steps.specs.SumLaw.{sum_of_rates}
 use Rattle.pepa_steps.proofs.ProperRates.{HasProperPrefixes, HasProperRates, proper_state}
 use Rattle.pepa_steps.proofs.ElementsOf.{from_append, from_map, from_filter, all_of_front, all_of_back}
@@ -26,7 +26,7 @@ use Rattle.pepa_steps.proofs.StateLists.{HasNoTau, transition_list}
 use Rattle.pepa_steps.proofs.WithoutTau.{state_without_tau}
 use Rattle.pepa_steps.proofs.StateOpens.{state_from_parts}
 use Rattle.pepa_steps.proofs.ApparentSums.{IsDefined, IsLowestRate, IsProperRate, lowest_positive, proper_defined, fine_proper, rate_of-positive}
-use Rattle.pepa_steps.proofs.ApparentSums.{together-lowest, together-none, jointly-lowest, in_all, both_sides}
+use Rattle.pepa_steps.proofs.ApparentSums.{together-lowest, together-none, least_if_both-lowest, in_all, both_sides}
 use Rattle.pepa_steps.proofs.RateSums.{HasPositive, ArePositive, sum-append, sum-map, sum-filter, sum-hidden}
 use Rattle.pepa_steps.proofs.JointSums.{joints-positive, sum-joints}
 
@@ -46,7 +46,7 @@ lowest_in (LeafOpen o) h a = lowest_leaf o h a
 lowest_in (CoopOpen s t set) h a =
     let x : Apparent = apparent_in s a in
     let y : Apparent = apparent_in t a in
-    lowest_if (has set a) (jointly x y) (together x y) (jointly-lowest x y (lowest_in s h.0 a) (lowest_in t h.1 a)) (together-lowest x y (lowest_in s h.0 a) (lowest_in t h.1 a))
+    lowest_if (has set a) (least_if_both x y) (together x y) (least_if_both-lowest x y (lowest_in s h.0 a) (lowest_in t h.1 a)) (together-lowest x y (lowest_in s h.0 a) (lowest_in t h.1 a))
 lowest_in (HideOpen s set) h a = lowest_if (has set a) NoRate (apparent_in s a) tt (lowest_in s h a)
 
 -- the apparent rate, or what stands for it
@@ -166,7 +166,7 @@ module _ (s t : OpenState) (set : List ℕ) (proper_s : HasProperRates s) (prope
         ∙ ap (λ (z : Apparent). in_all (rate_of x) z (sum_of_rates a joined)) right_is
         ∙ ap (in_all (rate_of x) y) sum_of_joined
 
-    sum_of_cooperation : sum_of_rates a ((lefts ++ rights) ++ joints) ≡ (if has set a then jointly x y else together x y)
+    sum_of_cooperation : sum_of_rates a ((lefts ++ rights) ++ joints) ≡ (if has set a then least_if_both x y else together x y)
     sum_of_cooperation =
         sum-append a (lefts ++ rights) joints (append_positive lefts rights lefts_positive rights_positive) joints_positive
         ∙ ap (λ (z : Apparent). together z (sum_of_rates a joints)) (sum-append a lefts rights lefts_positive rights_positive)
@@ -183,25 +183,25 @@ moves_positive (CoopOpen s t set) h = cooperation_positive s t set h.0 h.1 (move
 moves_positive (HideOpen s set) h = map_positive (hidden_move set) (λ u. refl) (moves_in s) (moves_positive s h)
 
 module _ (a : ℕ) (positive : 0 < a) where
-  proper_rate : (tree : OpenState) → HasProperRates tree → AllByRecursion HasFineRates (parts_in tree) → IsProperRate (apparent_in tree a)
-  proper_rate tree h fine = fine_proper (apparent_in tree a) (state_from_parts HasFineRates tree fine a positive) (lowest_in tree h a)
+  proper_rate : (tree : OpenState) → HasProperRates tree → AllByRecursion HasFineStateRates (parts_in tree) → IsProperRate (apparent_in tree a)
+  proper_rate tree h fine = fine_proper (apparent_in tree a) (state_from_parts HasFineStateRates tree fine a positive) (lowest_in tree h a)
 
-  sum_of_moves : (tree : OpenState) → HasProperRates tree → AllByRecursion HasFineRates (parts_in tree) → sum_of_rates a (moves_in tree) ≡ apparent_in tree a
+  sum_of_moves : (tree : OpenState) → HasProperRates tree → AllByRecursion HasFineStateRates (parts_in tree) → sum_of_rates a (moves_in tree) ≡ apparent_in tree a
   sum_of_moves (LeafOpen o) h fine = sum_of_leaf a o h
   sum_of_moves (CoopOpen s t set) h fine =
-      let within = all_of_front HasFineRates (parts_in s ++ parts_in t) (CoopOpen s t set ∷ []) fine in
-      let fine_s = all_of_front HasFineRates (parts_in s) (parts_in t) within in
-      let fine_t = all_of_back HasFineRates (parts_in s) (parts_in t) within in
+      let within = all_of_front HasFineStateRates (parts_in s ++ parts_in t) (CoopOpen s t set ∷ []) fine in
+      let fine_s = all_of_front HasFineStateRates (parts_in s) (parts_in t) within in
+      let fine_t = all_of_back HasFineStateRates (parts_in s) (parts_in t) within in
       sum_of_cooperation s t set h.0 h.1 (moves_positive s h.0) (moves_positive t h.1) a (proper_rate s h.0 fine_s) (proper_rate t h.1 fine_t)
       (sum_of_moves s h.0 fine_s) (sum_of_moves t h.1 fine_t)
   sum_of_moves (HideOpen s set) h fine =
       sum-hidden a set positive (moves_in s)
-      ∙ ap (λ (x : Apparent). if has set a then NoRate else x) (sum_of_moves s h (all_of_front HasFineRates (parts_in s) (HideOpen s set ∷ []) fine))
+      ∙ ap (λ (x : Apparent). if has set a then NoRate else x) (sum_of_moves s h (all_of_front HasFineStateRates (parts_in s) (HideOpen s set ∷ []) fine))
 
 pub sum_of_list : (definitions : List Definition) (state : State) (tree : OpenState) (ts : List StateTransition) (action : ℕ) → 0 < action → OpensState definitions state tree
     → HasNoTau tree → AllByRecursion IsFinePart (parts_in tree) → HasProperRates tree → IsTransitionList definitions state ts → sum_of_rates action ts ≡ apparent_in tree action
 sum_of_list definitions state tree ts action positive opens none fine proper list =
-    let rates = all_same IsFinePart HasFineRates (λ part fine. fine.rates) (parts_in tree) fine in
+    let rates = all_same IsFinePart HasFineStateRates (λ part fine. fine.rates) (parts_in tree) fine in
     let same = one_list definitions state ts (moves_in tree) list (transition_list definitions state tree opens none rates) in
     ap (sum_of_rates action) same ∙ sum_of_moves action positive tree proper rates
 

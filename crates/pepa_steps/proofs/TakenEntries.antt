@@ -10,9 +10,9 @@ use Rattle.std.proofs.lemmas.List.{append-nil, length_push, get_or_at, length-ma
 use Rattle.std.proofs.lemmas.List.Elements.{filter-append, All-nil, All-cons}
 use Rattle.std.proofs.lemmas.List.Sums.{sum_by_push, length-filter, count_by-le-length}
 use Rattle.std.proofs.lemmas.Bool.{cases_eq, eq-eqb, ne_eqb}
-use Rattle.pepa_steps.specs.Moves.{Move, move, has, alone}
+use Rattle.pepa_steps.specs.Moves.{Move, move, has, outside_set}
 use Rattle.pepa_steps.specs.Combined.{numbered}
-use Rattle.pepa_steps.specs.JointSteps.{HasPartners, listed, indices_in, places_from, AddsPartner, pair_count}
+use Rattle.pepa_steps.specs.JointSteps.{HasPartners, listed_indices, indices_in, places_from, AddsPartner, pair_count}
 use Rattle.pepa_steps.specs.declared.entries.Entry.{Entry}
 
 -- ---- entries that lead to their places
@@ -64,16 +64,16 @@ abbrev pub shared : List ℕ → List (Move ℕ) → List (Move ℕ)
 shared types us = filter (λ u. has types u.action) us
 
 module _ (types : List ℕ) (us us' : List (Move ℕ)) (u : (Move ℕ)) (grows : us' ≡ us ++ u ∷ []) where
-  alone_more : has types u.action ≡ false → alone types us' ≡ alone types us ++ u ∷ []
-  alone_more h = ap (alone types) grows ∙ filter_keeps (λ (v : (Move ℕ)). not (has types v.action)) us u (ap not h)
+  alone_more : has types u.action ≡ false → outside_set types us' ≡ outside_set types us ++ u ∷ []
+  alone_more h = ap (outside_set types) grows ∙ filter_keeps (λ (v : (Move ℕ)). not (has types v.action)) us u (ap not h)
 
-  alone_same : has types u.action ≡ true → alone types us' ≡ alone types us
-  alone_same h = ap (alone types) grows ∙ filter_skips (λ (v : (Move ℕ)). not (has types v.action)) us u (ap not h)
+  alone_same : has types u.action ≡ true → outside_set types us' ≡ outside_set types us
+  alone_same h = ap (outside_set types) grows ∙ filter_skips (λ (v : (Move ℕ)). not (has types v.action)) us u (ap not h)
 
-  pub counts_alone : (count : ℕ) → has types u.action ≡ false → count ≡ length (alone types us) → count + 1 ≡ length (alone types us')
-  counts_alone count h so_far = ap (λ (n : ℕ). n + 1) so_far ∙ sym (length_push (alone types us) u) ∙ ap length (sym (alone_more h))
+  pub counts_alone : (count : ℕ) → has types u.action ≡ false → count ≡ length (outside_set types us) → count + 1 ≡ length (outside_set types us')
+  counts_alone count h so_far = ap (λ (n : ℕ). n + 1) so_far ∙ sym (length_push (outside_set types us) u) ∙ ap length (sym (alone_more h))
 
-  pub same_alone : (count : ℕ) → has types u.action ≡ true → count ≡ length (alone types us) → count ≡ length (alone types us')
+  pub same_alone : (count : ℕ) → has types u.action ≡ true → count ≡ length (outside_set types us) → count ≡ length (outside_set types us')
   same_alone count h so_far = so_far ∙ ap length (sym (alone_same h))
 
   pub shared_more : has types u.action ≡ true → shared types us' ≡ shared types us ++ u ∷ []
@@ -161,11 +161,11 @@ as_many action (d ∷ vs) =
 -- the indices that a look-up has found; none where it has found none
 pub found_places : (types : List ℕ) (vs : List (Move ℕ)) (entries : List (ℕ × List ℕ)) (action : ℕ) (indices : List ℕ) → HasPartners types vs entries → has types action ≡ true
     → Some indices ≡ lookup (is_at (nat_cmp action)) entries → indices ≡ places_from 0 action vs
-found_places types vs entries action indices partners h found = ap listed found ∙ partners action h
+found_places types vs entries action indices partners h found = ap listed_indices found ∙ partners action h
 
 pub no_places : (types : List ℕ) (vs : List (Move ℕ)) (entries : List (ℕ × List ℕ)) (action : ℕ) → HasPartners types vs entries → has types action ≡ true
     → None ≡ lookup (is_at (nat_cmp action)) entries → [] ≡ places_from 0 action vs
-no_places types vs entries action partners h found = ap listed found ∙ partners action h
+no_places types vs entries action partners h found = ap listed_indices found ∙ partners action h
 
 pub no_more_than : (action : ℕ) (vs : List (Move ℕ)) → length (places_from 0 action vs) ≤ length vs
 no_more_than action vs = let e = as_many action vs ∙ length-filter (λ (v : (Move ℕ)). action == v.action) vs in omega (arith, e, count_by-le-length (λ (v : (Move ℕ)). action == v.action) vs)

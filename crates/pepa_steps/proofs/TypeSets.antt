@@ -1,5 +1,5 @@
 -- Sets of action types, whose numbers ascend, and what a binary search says of them.
-use Rattle.std.proofs.Common.{◌≡◌, ◌≢◌, ℕ, suc, ◌<◌, ◌≤◌, ◌⊎◌, inl, inr, false, ◌||◌, List, [], ◌∷◌, length, get_or, slice_index_or, Ok, Err, refl, sym, ap, subst, ◌∙◌, arith}
+use Rattle.std.proofs.Common.{◌≡◌, ◌≢◌, ℕ, suc, ◌<◌, ◌≤◌, ◌⊎◌, inl, inr, false, ◌||◌, List, [], ◌∷◌, length, get_or, Ok, Err, refl, sym, ap, ◌∙◌, arith}
 use Rattle.std.specs.Prelude.{◌==◌, Bool, Result, is_ok}
 use Rattle.std.specs.Ordering.{nat_cmp}
 use Rattle.std.specs.List.Sorted.{IsStrictlyIncreasing, IsBinarySearchResult}
@@ -8,8 +8,6 @@ use Rattle.std.proofs.lemmas.Bool.{cases_eq, cases_lt, eq-eqb, ne_eqb}
 use Rattle.std.proofs.lemmas.List.Folds.{list_any_at}
 use Rattle.std.proofs.lemmas.List.Kept.{AllPairs-from_increasing}
 use Rattle.std.proofs.lemmas.List.Sorted.{searched}
-use Rattle.std.proofs.lemmas.Option.{slice_get-get_or, slice_get_read, get_or_from_slice_get}
-use Rattle.pepa_model.specs.PepaModel.{PepaModel, IsModel}
 use Rattle.pepa_steps.specs.States.{has}
 
 -- no type is lower than one in front of it
@@ -39,17 +37,6 @@ of_search types action (Err i) h = sym (not_among types action (λ k below e. di
     differs : (k : ℕ) → k < length types → action ≡ get_or types k 0 → (k < i) ⊎ (i ≤ k) → ⊥
     differs k below e (inl lt) = omega (arith, e, h.1 k lt)
     differs k below e (inr le) = omega (arith, e, h.2 k le below)
-
--- the sets of a model ascend
-set_ascends : (m : PepaModel) → IsModel m → (set : ℕ) → set < length m.sets → IsStrictlyIncreasing (slice_index_or m.sets set [])
-set_ascends m sound set known = (sound.sets set (slice_index_or m.sets set []) (slice_get-get_or m.sets set [] known)).ascends
-
--- also where they are read from a list that is theirs
-pub read_ascends : (m : PepaModel) → IsModel m → (set : ℕ) → set < length m.sets → (sets : List (List ℕ)) (types : List ℕ) → sets ≡ m.sets → types ≡ get_or sets set types → IsStrictlyIncreasing types
-read_ascends m sound set known sets types same is =
-    let at : types ≡ get_or m.sets set types = is ∙ ap (λ (s : List (List ℕ)). get_or s set types) same in
-    subst (λ (ts : List ℕ). IsStrictlyIncreasing ts) (get_or_from_slice_get m.sets set types [] (slice_get_read m.sets (length m.sets) set types refl known at))
-    (set_ascends m sound set known)
 
 -- a binary search finds just what is among the types
 pub search_finds : (types : List ℕ) (action : ℕ) (r : Result ℕ ℕ) → IsStrictlyIncreasing types → IsBinarySearchResult (λ y. nat_cmp y action) types r → is_ok r ≡ has types action

@@ -1,5 +1,5 @@
 -- Apparent rates by action type.
-use Rattle.std.specs.Prelude.{◌≡◌, ◌≢◌, ◌==◌, ℕ, ◌<◌, if◌then◌else◌, List, Result, Ok, Err}
+use Rattle.std.specs.Prelude.{◌≡◌, ◌≢◌, ◌==◌, ℕ, ◌<◌, if◌then◌else◌, List, Result}
 use Rattle.std.specs.Ordering.{nat_cmp}
 use Rattle.std.specs.BTreeMap.{BTreeMap, is_at}
 use Rattle.std.specs.Map.{lookup}
@@ -10,8 +10,8 @@ use Rattle.pepa_model.specs.Opened.{Opened, parts}
 use Rattle.pepa_model.specs.Apparent.{Apparent, NoRate, Rated, apparent_rate, together, IsFine, HasFault}
 use Rattle.pepa_model.specs.Verdict.{IsFirstFault, IsLeastFault}
 use Rattle.pepa_steps.specs.ApparentAnswers.{apparent_of}
-use Rattle.pepa_steps.specs.declared.action_rates.RatesEnd.{RatesEnd}
-use Rattle.pepa_steps.specs.declared.action_rates.RatesEnd.TheVariants.{Fault, Memory}
+use Rattle.fault_ends.specs.Answers.{OkOrFault}
+use Rattle.fault_ends.specs.declared.end.End.{End}
 
 -- the rate that the entries have for an action
 abbrev pub rate_in : List (ℕ × Rate) → ℕ → Apparent
@@ -32,8 +32,8 @@ abbrev pub rates_of_choice : List (ℕ × Rate) → List (ℕ × Rate) → ℕ �
 rates_of_choice left right action = together (rate_in left action) (rate_in right action)
 
 -- a part whose apparent rates are in order
-abbrev pub HasFineRates : Opened → Type 0
-HasFineRates part = (action : ℕ) → 0 < action → IsFine (apparent_rate part action)
+abbrev pub HasFineComponentRates : Opened → Type 0
+HasFineComponentRates part = (action : ℕ) → 0 < action → IsFine (apparent_rate part action)
 
 -- the fault of the least action from 1 up that has one
 abbrev pub HasLeastFault : Opened → RateFault → Type 0
@@ -45,23 +45,23 @@ pub record AreRatesOf (entries : List (ℕ × Rate)) (whole : Opened) : Type 0 w
   pub no_tau : rate_in entries 0 ≡ NoRate
 
 -- the rates of a component without a fault, else its first fault
-abbrev pub AnswersRates : Opened → Result (BTreeMap ℕ Rate) RatesEnd → Type 0
-AnswersRates whole (Ok rates) = AllByRecursion HasFineRates (parts whole) × AreRatesOf rates.entries whole
-AnswersRates whole (Err (Fault fault)) = IsFirstFault HasFineRates HasLeastFault (parts whole) fault
-AnswersRates whole (Err Memory) = Unit {0}
+abbrev pub AnswersRates : Opened → Result (BTreeMap ℕ Rate) (End RateFault) → Type 0
+AnswersRates whole result =
+    OkOrFault result (λ rates. AllByRecursion HasFineComponentRates (parts whole) × AreRatesOf rates.entries whole)
+    (λ fault. IsFirstFault HasFineComponentRates HasLeastFault (parts whole) fault)
 
 -- the rates of a prefix: its own, unless it is `tau`
-abbrev pub IsRatesOfPrefix : ℕ → Rate → Result (BTreeMap ℕ Rate) RatesEnd → Type 0
-IsRatesOfPrefix action rate (Ok rates) = AllFine rates.entries × ((other : ℕ) → 0 < other → rate_in rates.entries other ≡ (if action == other then Rated rate else NoRate)) × (rate_in rates.entries 0 ≡ NoRate)
-IsRatesOfPrefix action rate (Err (Fault fault)) = ⊥
-IsRatesOfPrefix action rate (Err Memory) = Unit {0}
+abbrev pub IsRatesOfPrefix : ℕ → Rate → Result (BTreeMap ℕ Rate) (End RateFault) → Type 0
+IsRatesOfPrefix action rate result =
+    OkOrFault result (λ rates. AllFine rates.entries × ((other : ℕ) → 0 < other → rate_in rates.entries other ≡ (if action == other then Rated rate else NoRate)) × (rate_in rates.entries 0 ≡ NoRate))
+    (λ fault. ⊥)
 
-abbrev pub AnswersAddition : List (ℕ × Rate) → List (ℕ × Rate) → ℕ → Rate → Result (Unit {0}) RatesEnd → Type 0
-AnswersAddition old new action rate (Ok _) = AddsRate old new action rate
-AnswersAddition old new action rate (Err (Fault fault)) = HasFault (together (rate_in old action) (Rated rate)) fault
-AnswersAddition old new action rate (Err Memory) = Unit {0}
+-- the rate is added; else the sum has this fault
+abbrev pub AnswersAddition : List (ℕ × Rate) → List (ℕ × Rate) → ℕ → Rate → Result (Unit {0}) (End RateFault) → Type 0
+AnswersAddition old new action rate result = OkOrFault result (λ _. AddsRate old new action rate) (λ fault. HasFault (together (rate_in old action) (Rated rate)) fault)
 
-abbrev pub AnswersChoice : List (ℕ × Rate) → List (ℕ × Rate) → Result (BTreeMap ℕ Rate) RatesEnd → Type 0
-AnswersChoice left right (Ok rates) = AllFine rates.entries × ((action : ℕ) → rate_in rates.entries action ≡ rates_of_choice left right action)
-AnswersChoice left right (Err (Fault fault)) = IsLeastFault (rates_of_choice left right) 0 fault
-AnswersChoice left right (Err Memory) = Unit {0}
+-- the rates of a choice, which are in order; else the fault of the least action that has one
+abbrev pub AnswersChoice : List (ℕ × Rate) → List (ℕ × Rate) → Result (BTreeMap ℕ Rate) (End RateFault) → Type 0
+AnswersChoice left right result =
+    OkOrFault result (λ rates. AllFine rates.entries × ((action : ℕ) → rate_in rates.entries action ≡ rates_of_choice left right action))
+    (λ fault. IsLeastFault (rates_of_choice left right) 0 fault)

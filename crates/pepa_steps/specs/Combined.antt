@@ -1,6 +1,9 @@
 -- Entries of both sides of a cooperation, and the entries of the cooperation with where they come from.
 use Rattle.std.specs.Prelude.{◌≡◌, ℕ, ◌+◌, ◌<◌, ◌≤◌, bit_or, true, List, [], ◌∷◌, ◌++◌, map, length, Result, Ok, Err}
 use Rattle.std.specs.List.{AllByRecursion, Contains}
+use Rattle.fault_ends.specs.Answers.{OkOrFault}
+use Rattle.fault_ends.specs.declared.end.End.{End}
+use Rattle.pepa_rates.specs.declared.frac.RateOverflow.{RateOverflow}
 use Rattle.pepa_rates.specs.declared.rate.Rate.{Rate}
 use Rattle.pepa_rates.specs.Fraction.{InRange}
 use Rattle.pepa_rates.specs.Share.{SameKind, share_of}
@@ -15,8 +18,6 @@ use Rattle.pepa_steps.specs.declared.entries.Entry.{Entry}
 use Rattle.pepa_steps.specs.declared.entries.Origin.{Origin}
 use Rattle.pepa_steps.specs.declared.entries.Origin.TheVariants.{Left, Right, Both}
 use Rattle.pepa_steps.specs.declared.entries.Derived.{Derived}
-use Rattle.pepa_steps.specs.declared.combining.JointEnd.{JointEnd}
-use Rattle.pepa_steps.specs.declared.combining.JointEnd.TheVariants as joint
 use Rattle.pepa_steps.specs.declared.transitions.StepsEnd.{StepsEnd}
 use Rattle.pepa_steps.specs.declared.transitions.StepsEnd.TheVariants.{Fault, Memory}
 
@@ -64,25 +65,27 @@ abbrev pub AreMovesInRange : {X : Type 0} → List (Move X) → Type 0
 AreMovesInRange us = AllByRecursion (λ u. InRange (fraction_of u.rate)) us
 
 -- these are added, with where each comes from
-pub record Adds (old new : List Entry) (origins_old origins_new : List Origin) (us : List (Move Origin)) : Type 0 where
+pub record AddsEntries (old new : List Entry) (origins_old origins_new : List Origin) (us : List (Move Origin)) : Type 0 where
   pub entries : new ≡ old ++ map entry_of us
   pub origins : origins_new ≡ origins_old ++ map target_of us
 
+abbrev pub AddsTo : Derived → Derived → List (Move Origin) → Type 0
+AddsTo old new us = AddsEntries old.entries.items new.entries.items old.origins.items new.origins.items us
+
+-- and their rates are in range
 abbrev pub HasAdded : Derived → Derived → List (Move Origin) → Type 0
-HasAdded old new us = Adds old.entries.items new.entries.items old.origins.items new.origins.items us × AreMovesInRange us
+HasAdded old new us = AddsTo old new us × AreMovesInRange us
 
 -- they are added, and their rates are in range; else one isn't
-abbrev pub AddsJoint : Derived → Derived → List (Move Origin) → Result (Unit {0}) JointEnd → Type 0
-AddsJoint old new us (Ok _) = HasAdded old new us
-AddsJoint old new us (Err joint.Overflow) = ¬ AreMovesInRange us
-AddsJoint old new us (Err joint.Memory) = Unit {0}
+abbrev pub AddsJoint : Derived → Derived → List (Move Origin) → Result (Unit {0}) (End RateOverflow) → Type 0
+AddsJoint old new us result = OkOrFault result (λ _. HasAdded old new us) (λ overflow. ¬ AreMovesInRange us)
 
 -- the entry of both, whose rate is in range; else that it isn't
-abbrev pub IsJointEntry : Entry → Rate → Entry → Rate → Result Entry JointEnd → Type 0
-IsJointEntry u ra v rb (Ok made) =
-    (made ≡ record { action = u.action; signals = bit_or u.signals v.signals; rate = share_of u.rate ra v.rate rb }) × InRange (fraction_of (share_of u.rate ra v.rate rb))
-IsJointEntry u ra v rb (Err joint.Overflow) = ¬ InRange (fraction_of (share_of u.rate ra v.rate rb))
-IsJointEntry u ra v rb (Err joint.Memory) = Unit {0}
+abbrev pub IsJointEntry : Entry → Rate → Entry → Rate → Result Entry (End RateOverflow) → Type 0
+IsJointEntry u ra v rb result =
+    OkOrFault result
+    (λ made. (made ≡ record { action = u.action; signals = bit_or u.signals v.signals; rate = share_of u.rate ra v.rate rb }) × InRange (fraction_of (share_of u.rate ra v.rate rb)))
+    (λ overflow. ¬ InRange (fraction_of (share_of u.rate ra v.rate rb)))
 
 -- what is wrong with the list of a part whose apparent rates are in order
 abbrev pub HasListFault : {X : Type 0} → List (Move X) → PartFault → Type 0

@@ -11,18 +11,18 @@ places_from at action [] = []
 places_from at action (v ∷ vs) = if action == v.action then at ∷ places_from (at + 1) action vs else places_from (at + 1) action vs
 
 -- the indices that the entries have for an action; none if they don't have it
-abbrev pub listed : Option (List ℕ) → List ℕ
-listed None = []
-listed (Some indices) = indices
+abbrev pub listed_indices : Option (List ℕ) → List ℕ
+listed_indices None = []
+listed_indices (Some indices) = indices
 
 abbrev pub indices_in : List (ℕ × List ℕ) → ℕ → List ℕ
-indices_in entries action = listed (lookup (is_at (nat_cmp action)) entries)
+indices_in entries action = listed_indices (lookup (is_at (nat_cmp action)) entries)
 
 -- the entries have the places of the transitions of each type in the set
 abbrev pub HasPartners : {X : Type 0} → List ℕ → List (Move X) → List (ℕ × List ℕ) → Type 0
 HasPartners types vs entries = (action : ℕ) → has types action ≡ true → indices_in entries action ≡ places_from 0 action vs
 
--- the action gets one more index, behind its others
+-- the action gets one more index, after its others
 pub record AddsPartner (old new : List (ℕ × List ℕ)) (action index : ℕ) : Type 0 where
   pub here : indices_in new action ≡ indices_in old action ++ index ∷ []
   pub elsewhere : (other : ℕ) → other ≢ action → indices_in new other ≡ indices_in old other

@@ -20,3 +20,4 @@ pub mod Sources
 pub mod ListAnswers
 pub mod EndNames
 pub mod WholeVerdict
+pub mod Existence

@@ -2,7 +2,8 @@
 use Rattle.std.specs.Prelude.{◌≡◌, ℕ, Some, List, map, slice_get, Result, Ok, Err}
 use Rattle.pepa_model.specs.Expression.{Definition}
 use Rattle.pepa_model.specs.PepaModel.{PepaModel}
-use Rattle.pepa_steps.specs.States.{State, StateTransition}
+use Rattle.pepa_model.specs.declared.term.Term.{Term}
+use Rattle.pepa_steps.specs.States.{State, StateTransition, StandsFor}
 use Rattle.pepa_steps.specs.Rules.{IsTransitionList}
 use Rattle.pepa_steps.specs.StateVerdict.{PartFault, IsWithoutFault, IsVerdict}
 use Rattle.pepa_steps.specs.StepsAnswers.{fault_name}
@@ -26,3 +27,8 @@ pub record IsTransitionAt (definitions : List Definition) (state : State) (index
   pub transitions : List StateTransition
   pub listed : IsTransitionList definitions state transitions
   pub at : slice_get transitions index ≡ Some transition
+
+-- the made term stands for the state that follows the transition at this index, of each state that the term stands for
+abbrev pub IsTargetAt : PepaModel → Term → ℕ → Term → Type 0
+IsTargetAt m term index made =
+    (state : State) (transition : StateTransition) → StandsFor m state term → IsTransitionAt m.bodies state index transition → StandsFor m transition.target made

@@ -7,7 +7,7 @@ use Rattle.pepa_model.specs.Expression.{Expression, Const, Prefixed, Chosen, Def
 use Rattle.pepa_model.specs.Derivation.{Transition}
 use Rattle.pepa_model.specs.Opened.{Opened, OpenPrefix, OpenChoice, OpenConst, Opens, parts, moves}
 use Rattle.pepa_model.specs.Apparent.{Apparent, NoRate, Rated, Undefined, together, apparent_rate}
-use Rattle.pepa_steps.specs.Moves.{carry, joined, hidden, cooperation}
+use Rattle.pepa_steps.specs.Moves.{carry, joint_of, under_hiding, cooperation}
 use Rattle.pepa_steps.specs.States.{State, AtLeaf, Cooperating, Hiding, has, StateTransition, state_transition}
 
 pub data OpenState : Type 0 where
@@ -22,7 +22,7 @@ OpensState definitions (Cooperating p q set) (CoopOpen s t other) = OpensState d
 OpensState definitions (Hiding p set) (HideOpen s other) = OpensState definitions p s × (other ≡ set)
 OpensState definitions _ _ = ⊥
 
--- the parts of a state in post-order: the left side, the right side, the whole; what hides behind what it hides. The parts of a
+-- the parts of a state in post-order: the left side, the right side, the whole; a hiding after what it hides. The parts of a
 -- leaf are those of its component
 abbrev pub parts_in : OpenState → List OpenState
 parts_in (LeafOpen o) = map LeafOpen (parts o)
@@ -32,19 +32,19 @@ parts_in (HideOpen s set) = parts_in s ++ HideOpen s set ∷ []
 -- ---- apparent rates (chapter 3)
 
 -- for a type in the set of a cooperation, the lesser of both sides' rates, or none if one side has none
-abbrev pub jointly : Apparent → Apparent → Apparent
-jointly NoRate y = NoRate
-jointly (Rated r) NoRate = NoRate
-jointly (Rated r) (Rated s) = Rated (least_of r s)
-jointly (Rated r) Undefined = Undefined
-jointly Undefined NoRate = NoRate
-jointly Undefined (Rated s) = Undefined
-jointly Undefined Undefined = Undefined
+abbrev pub least_if_both : Apparent → Apparent → Apparent
+least_if_both NoRate y = NoRate
+least_if_both (Rated r) NoRate = NoRate
+least_if_both (Rated r) (Rated s) = Rated (least_of r s)
+least_if_both (Rated r) Undefined = Undefined
+least_if_both Undefined NoRate = NoRate
+least_if_both Undefined (Rated s) = Undefined
+least_if_both Undefined Undefined = Undefined
 
 -- for a type outside the set it is that of a choice; a hidden type has none
 abbrev pub apparent_in : OpenState → ℕ → Apparent
 apparent_in (LeafOpen o) a = apparent_rate o a
-apparent_in (CoopOpen s t set) a = if has set a then jointly (apparent_in s a) (apparent_in t a) else together (apparent_in s a) (apparent_in t a)
+apparent_in (CoopOpen s t set) a = if has set a then least_if_both (apparent_in s a) (apparent_in t a) else together (apparent_in s a) (apparent_in t a)
 apparent_in (HideOpen s set) a = if has set a then NoRate else apparent_in s a
 
 -- ---- transitions
@@ -61,19 +61,19 @@ right_move p set = carry (λ q. Cooperating p q set)
 
 -- both sides move together, where these are their apparent rates of the action
 abbrev pub joint_move : List ℕ → Rate → Rate → StateTransition → StateTransition → StateTransition
-joint_move set = joined (λ p q. Cooperating p q set)
+joint_move set = joint_of (λ p q. Cooperating p q set)
 
 abbrev pub hidden_move : List ℕ → StateTransition → StateTransition
-hidden_move set = hidden (λ p. Hiding p set) set
+hidden_move set = under_hiding (λ p. Hiding p set) set
 
 -- the expression that a component opened from, and the state
-abbrev pub closed : Opened → Expression
-closed (OpenPrefix a r next) = Prefixed a r next
-closed (OpenChoice p q) = Chosen (closed p) (closed q)
-closed (OpenConst c p) = Const c
+abbrev pub unopened : Opened → Expression
+unopened (OpenPrefix a r next) = Prefixed a r next
+unopened (OpenChoice p q) = Chosen (unopened p) (unopened q)
+unopened (OpenConst c p) = Const c
 
 abbrev pub closed_state : OpenState → State
-closed_state (LeafOpen o) = AtLeaf (closed o)
+closed_state (LeafOpen o) = AtLeaf (unopened o)
 closed_state (CoopOpen s t set) = Cooperating (closed_state s) (closed_state t) set
 closed_state (HideOpen s set) = Hiding (closed_state s) set
 

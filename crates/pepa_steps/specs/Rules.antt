@@ -25,37 +25,37 @@ HasApparent definitions state a rate = (tree : OpenState) × OpensState definiti
 -- the rules, one case each: a leaf does what its component does; one side of a cooperation moves alone by a type outside the set;
 -- both move together by a type in the set, at their share of the apparent rates; a hiding does what is hidden, by `tau` for a
 -- hidden type
-abbrev pub Concludes : List Definition → StateDerivation → State → StateTransition → Type 0
-Concludes definitions (OfLeaf d) (AtLeaf e) t = (u : Transition) × leaf.Concludes definitions d e u × (t ≡ leaf_move u)
-Concludes definitions (OnLeft d) (Cooperating p q set) t = (u : StateTransition) × Concludes definitions d p u × (has set u.action ≡ false) × (t ≡ left_move q set u)
-Concludes definitions (OnRight d) (Cooperating p q set) t = (v : StateTransition) × Concludes definitions d q v × (has set v.action ≡ false) × (t ≡ right_move p set v)
-Concludes definitions (OnBoth d e) (Cooperating p q set) t =
-    (u : StateTransition) × (v : StateTransition) × Concludes definitions d p u × Concludes definitions e q v × (has set u.action ≡ true) × (v.action ≡ u.action)
+abbrev pub StateConcludes : List Definition → StateDerivation → State → StateTransition → Type 0
+StateConcludes definitions (OfLeaf d) (AtLeaf e) t = (u : Transition) × leaf.Concludes definitions d e u × (t ≡ leaf_move u)
+StateConcludes definitions (OnLeft d) (Cooperating p q set) t = (u : StateTransition) × StateConcludes definitions d p u × (has set u.action ≡ false) × (t ≡ left_move q set u)
+StateConcludes definitions (OnRight d) (Cooperating p q set) t = (v : StateTransition) × StateConcludes definitions d q v × (has set v.action ≡ false) × (t ≡ right_move p set v)
+StateConcludes definitions (OnBoth d e) (Cooperating p q set) t =
+    (u : StateTransition) × (v : StateTransition) × StateConcludes definitions d p u × StateConcludes definitions e q v × (has set u.action ≡ true) × (v.action ≡ u.action)
     × ((ra : Rate) × (rb : Rate) × HasApparent definitions p u.action ra × HasApparent definitions q u.action rb × (t ≡ joint_move set ra rb u v))
-Concludes definitions (Under d) (Hiding p set) t = (u : StateTransition) × Concludes definitions d p u × (t ≡ hidden_move set u)
-Concludes definitions _ _ t = ⊥
+StateConcludes definitions (Under d) (Hiding p set) t = (u : StateTransition) × StateConcludes definitions d p u × (t ≡ hidden_move set u)
+StateConcludes definitions _ _ t = ⊥
 
--- derivation order: of a cooperation the derivations of the left side alone stand before those of the right side alone, and these
+-- derivation order: of a cooperation the derivations of the left side alone come before those of the right side alone, and these
 -- before the joint ones, which go by the left side's and then by the right side's
-abbrev pub Precedes : StateDerivation → StateDerivation → Type 0
-Precedes (OfLeaf d) (OfLeaf e) = leaf.Precedes d e
-Precedes (OnLeft d) (OnLeft e) = Precedes d e
-Precedes (OnLeft d) (OnRight e) = ⊤
-Precedes (OnLeft d) (OnBoth e f) = ⊤
-Precedes (OnRight d) (OnRight e) = Precedes d e
-Precedes (OnRight d) (OnBoth e f) = ⊤
-Precedes (OnBoth d e) (OnBoth f g) = Precedes d f ⊎ ((d ≡ f) × Precedes e g)
-Precedes (Under d) (Under e) = Precedes d e
-Precedes _ _ = ⊥
+abbrev pub StatePrecedes : StateDerivation → StateDerivation → Type 0
+StatePrecedes (OfLeaf d) (OfLeaf e) = leaf.Precedes d e
+StatePrecedes (OnLeft d) (OnLeft e) = StatePrecedes d e
+StatePrecedes (OnLeft d) (OnRight e) = ⊤
+StatePrecedes (OnLeft d) (OnBoth e f) = ⊤
+StatePrecedes (OnRight d) (OnRight e) = StatePrecedes d e
+StatePrecedes (OnRight d) (OnBoth e f) = ⊤
+StatePrecedes (OnBoth d e) (OnBoth f g) = StatePrecedes d f ⊎ ((d ≡ f) × StatePrecedes e g)
+StatePrecedes (Under d) (Under e) = StatePrecedes d e
+StatePrecedes _ _ = ⊥
 
--- each derivation precedes all later ones, so none stands twice
+-- each derivation precedes all later ones, so none comes twice
 abbrev pub InOrder : List StateDerivation → Type 0
 InOrder [] = ⊤
-InOrder (d ∷ ds) = AllByRecursion (Precedes d) ds × InOrder ds
+InOrder (d ∷ ds) = AllByRecursion (StatePrecedes d) ds × InOrder ds
 
 -- the transition list of a state has the conclusion of each of its derivations, each derivation once, in derivation order
 pub record IsTransitionList (definitions : List Definition) (state : State) (transitions : List StateTransition) : Type 0 where
   pub derivations : List StateDerivation
-  pub conclusions : AllZip (λ d t. Concludes definitions d state t) derivations transitions
-  pub complete : (d : StateDerivation) (t : StateTransition) → Concludes definitions d state t → Among d derivations
+  pub conclusions : AllZip (λ d t. StateConcludes definitions d state t) derivations transitions
+  pub complete : (d : StateDerivation) (t : StateTransition) → StateConcludes definitions d state t → Among d derivations
   pub in_order : InOrder derivations

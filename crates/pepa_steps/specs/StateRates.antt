@@ -8,12 +8,12 @@ use Rattle.pepa_model.specs.Expression.{Definition}
 use Rattle.pepa_model.specs.Apparent.{Apparent, NoRate, together, IsFine, HasFault}
 use Rattle.pepa_model.specs.Verdict.{IsFirstFault, IsLeastFault}
 use Rattle.pepa_steps.specs.States.{State, has}
-use Rattle.pepa_steps.specs.OpenStates.{OpenState, parts_in, apparent_in, jointly}
+use Rattle.pepa_steps.specs.OpenStates.{OpenState, parts_in, apparent_in, least_if_both}
 use Rattle.pepa_steps.specs.StateVerdict.{IsApparentRate, IsApparentFault}
 use Rattle.pepa_steps.specs.ApparentAnswers.{apparent_of, IsTogether}
 use Rattle.pepa_steps.specs.ActionRates.{rate_in, AllFine}
-use Rattle.pepa_steps.specs.declared.action_rates.RatesEnd.{RatesEnd}
-use Rattle.pepa_steps.specs.declared.action_rates.RatesEnd.TheVariants.{Fault, Memory}
+use Rattle.fault_ends.specs.Answers.{OkOrFault}
+use Rattle.fault_ends.specs.declared.end.End.{End}
 
 -- ---- one action
 
@@ -29,7 +29,7 @@ AnswersTree tree action (Err fault) = IsFirstFault (λ part. IsFine (apparent_in
 
 -- the rate of a cooperation, of those of its sides, where the action is in its set or isn't; else its fault
 abbrev pub IsOfCooperation : Bool → Option Rate → Option Rate → Result (Option Rate) RateFault → Type 0
-IsOfCooperation true left right result = (rate : Option Rate) × (result ≡ Ok rate) × (jointly (apparent_of left) (apparent_of right) ≡ apparent_of rate)
+IsOfCooperation true left right result = (rate : Option Rate) × (result ≡ Ok rate) × (least_if_both (apparent_of left) (apparent_of right) ≡ apparent_of rate)
 IsOfCooperation false left right result = IsTogether left right result
 
 -- ---- all actions
@@ -42,14 +42,13 @@ pub record AreStateRates (entries : List (ℕ × Rate)) (tree : OpenState) : Typ
 -- the rates of a cooperation over these types, action by action
 abbrev pub rates_of_cooperation : List ℕ → List (ℕ × Rate) → List (ℕ × Rate) → ℕ → Apparent
 rates_of_cooperation types left right action =
-    if has types action then jointly (rate_in left action) (rate_in right action) else together (rate_in left action) (rate_in right action)
+    if has types action then least_if_both (rate_in left action) (rate_in right action) else together (rate_in left action) (rate_in right action)
 
 -- the rates of a system that hides these types
 abbrev pub rates_of_hiding : List ℕ → List (ℕ × Rate) → ℕ → Apparent
 rates_of_hiding types inner action = if has types action then NoRate else rate_in inner action
 
 -- the entries are these rates, which are in order; else the fault of the least action that has one
-abbrev pub AnswersRatesBy : (ℕ → Apparent) → Result (BTreeMap ℕ Rate) RatesEnd → Type 0
-AnswersRatesBy rates (Ok found) = AllFine found.entries × ((action : ℕ) → rate_in found.entries action ≡ rates action)
-AnswersRatesBy rates (Err (Fault fault)) = IsLeastFault rates 0 fault
-AnswersRatesBy rates (Err Memory) = Unit {0}
+abbrev pub AnswersRatesBy : (ℕ → Apparent) → Result (BTreeMap ℕ Rate) (End RateFault) → Type 0
+AnswersRatesBy rates result =
+    OkOrFault result (λ found. AllFine found.entries × ((action : ℕ) → rate_in found.entries action ≡ rates action)) (λ fault. IsLeastFault rates 0 fault)

@@ -26,8 +26,8 @@ IsApparentFault definitions state action fault =
 -- ---- of all actions
 
 -- the apparent rate of each action from 1 up is defined and in range
-abbrev pub HasFineRates : OpenState → Type 0
-HasFineRates part = (action : ℕ) → 0 < action → IsFine (apparent_in part action)
+abbrev pub HasFineStateRates : OpenState → Type 0
+HasFineStateRates part = (action : ℕ) → 0 < action → IsFine (apparent_in part action)
 
 -- the rates of its derivations are in range
 abbrev pub AreInRange : List StateTransition → Type 0
@@ -35,7 +35,7 @@ AreInRange transitions = AllByRecursion (λ t. InRange (fraction_of t.rate)) tra
 
 -- a part in order: its apparent rates are, it has at most 65,535 derivations, and their rates are in range
 pub record IsFinePart (part : OpenState) : Type 0 where
-  pub rates : HasFineRates part
+  pub rates : HasFineStateRates part
   pub short : length (moves_in part) ≤ 65535
   pub in_range : AreInRange (moves_in part)
 
@@ -52,8 +52,8 @@ HasRateFault part fault = IsLeastFault (apparent_in part) 1 fault
 -- where the rates are in order, there may be too many derivations; and where there aren't, one may have a rate out of range
 abbrev pub HasPartFault : OpenState → PartFault → Type 0
 HasPartFault part (OfRates fault) = HasRateFault part fault
-HasPartFault part OfLength = HasFineRates part × (65535 < length (moves_in part))
-HasPartFault part OfDerivation = HasFineRates part × (length (moves_in part) ≤ 65535) × (¬ AreInRange (moves_in part))
+HasPartFault part OfLength = HasFineStateRates part × (65535 < length (moves_in part))
+HasPartFault part OfDerivation = HasFineStateRates part × (length (moves_in part) ≤ 65535) × (¬ AreInRange (moves_in part))
 
 -- no part of the state has a fault
 abbrev pub IsWithoutFault : List Definition → State → Type 0

@@ -16,7 +16,7 @@ pub data State : Type 0 where
   Cooperating : State → State → List ℕ → State
   Hiding : State → List ℕ → State
 
--- what a transition of a system tells: its action type, its signals, its rate, and the state that follows
+-- a transition of a system: its action type, its signals, its rate, and the state that follows
 abbrev pub StateTransition : Type 0
 StateTransition = Move State
 
@@ -35,6 +35,10 @@ NodeStandsFor m _ _ = ⊥
 
 abbrev pub StandsFor : PepaModel → State → Term → Type 0
 StandsFor m state term = NodeStandsFor m state (term_of term)
+
+-- this holds of each state that the term stands for
+abbrev pub ForEachState : PepaModel → Term → (State → Type 0) → Type 0
+ForEachState m term Holds = (state : State) → StandsFor m state term → Holds state
 
 -- the step is this transition; its target stands for the state that follows
 pub record StepStandsFor (m : PepaModel) (step : Step) (transition : StateTransition) : Type 0 where

@@ -24,7 +24,7 @@ abbrev pub AreSteps : PepaModel → State → List Step → Type 0
 AreSteps m state steps = (transitions : List StateTransition) × IsTransitionList m.bodies state transitions × AllZip (StepStandsFor m) steps transitions
 
 -- the transition list of a state without a fault, else the name of the verdict on it
-abbrev pub IsStepsAnswer : PepaModel → State → Result (List Step) StepsEnd → Type 0
-IsStepsAnswer m state (Ok steps) = IsWithoutFault m.bodies state × AreSteps m state steps
-IsStepsAnswer m state (Err (Fault name)) = (fault : PartFault) × IsVerdict m.bodies state fault × (name ≡ fault_name fault)
-IsStepsAnswer m state (Err Memory) = Unit {0}
+abbrev pub IsStepsResult : PepaModel → State → Result (List Step) StepsEnd → Type 0
+IsStepsResult m state (Ok steps) = IsWithoutFault m.bodies state × AreSteps m state steps
+IsStepsResult m state (Err (Fault name)) = (fault : PartFault) × IsVerdict m.bodies state fault × (name ≡ fault_name fault)
+IsStepsResult m state (Err Memory) = Unit {0}

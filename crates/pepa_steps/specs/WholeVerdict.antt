@@ -39,3 +39,9 @@ IsWholeVerdict definitions state OfPassive =
 IsWholeVerdict definitions state OfWeights =
     IsWithoutFault definitions state
     × ((ts : List StateTransition) × IsTransitionList definitions state ts × (¬ HasPassive (rates_of ts)) × (¬ AreWeighed (rates_of ts)))
+
+-- one of the state's transitions can be chosen: no part has a fault, none of them is passive, and they have weights
+abbrev pub CanChoose : List Definition → State → Type 0
+CanChoose definitions state =
+    IsWithoutFault definitions state
+    × ((ts : List StateTransition) × IsTransitionList definitions state ts × (¬ HasPassive (rates_of ts)) × AreWeighed (rates_of ts))

@@ -7,18 +7,11 @@ ghost use Rattle.pepa_model.specs.Opened.{Opened, Opens};
 ghost use Rattle.pepa_steps.specs.ApparentAnswers.{CanOpen};
 ghost use Rattle.pepa_steps.specs.ActionRates.{AnswersRates, AllFine, IsRatesOfPrefix, AddsRate, AnswersAddition, AnswersChoice};
 
-use pepa_model::{Model, Sequential};
+use fault_ends::End;
+use pepa_model::{Model, Sequential, TAU};
 use pepa_rates::{Rate, RateFault};
 use std::alloc::Global;
 use std::collections::BTreeMap;
-
-/// Why a component has no apparent rates.
-#[derive(Clone, Copy, Debug)]
-pub(crate) enum RatesEnd {
-    /// The first fault of its parts.
-    Fault(RateFault),
-    Memory,
-}
 
 /// The apparent rates of a component, of each action type from 1 up that it performs.
 ///
@@ -28,9 +21,10 @@ pub(crate) fn component_rates(
     model: &Model,
     component: &Sequential,
     depth: u32,
-) -> Result<BTreeMap<u32, Rate>, RatesEnd>
+) -> Result<BTreeMap<u32, Rate>, End<RateFault>>
     requires { CanOpen model.now.bodies (expression_of component.now) depth }
-    ensures { (o : Opened) → Opens model.now.bodies (expression_of component.now) o → AnswersRates o result }
+    ensures { (o : Opened)
+        → Opens model.now.bodies (expression_of component.now) o → AnswersRates o result }
 {
     match component {
         Sequential::Prefix(action, rate, _next) => prefix_rates(alloc, *action, rate),
@@ -46,13 +40,17 @@ pub(crate) fn component_rates(
 }
 
 // The rates of a prefix. The verdict doesn't judge `tau`.
-fn prefix_rates(alloc: Global, action: u32, rate: &Rate) -> Result<BTreeMap<u32, Rate>, RatesEnd>
+fn prefix_rates(
+    alloc: Global,
+    action: u32,
+    rate: &Rate,
+) -> Result<BTreeMap<u32, Rate>, End<RateFault>>
     ensures { IsRatesOfPrefix action rate.now result }
 {
     rate.valid();
     let mut rates = BTreeMap::new(alloc);
-    if action != 0 {
-        rates.insert(action, *rate).map_err(|_| RatesEnd::Memory)?;
+    if action != TAU {
+        rates.insert(action, *rate).map_err(|_| End::Memory)?;
     }
     Ok(rates)
 }
@@ -61,7 +59,7 @@ fn prefix_rates(alloc: Global, action: u32, rate: &Rate) -> Result<BTreeMap<u32,
 pub(crate) fn choice_rates(
     left: BTreeMap<u32, Rate>,
     right: BTreeMap<u32, Rate>,
-) -> Result<BTreeMap<u32, Rate>, RatesEnd>
+) -> Result<BTreeMap<u32, Rate>, End<RateFault>>
     requires left_fine { AllFine left.entries }
     requires right_fine { AllFine right.entries }
     ensures { AnswersChoice left.entries right.entries result }
@@ -77,7 +75,7 @@ pub(crate) fn choice_rates(
 fn add_rates(
     first: BTreeMap<u32, Rate>,
     others: BTreeMap<u32, Rate>,
-) -> Result<BTreeMap<u32, Rate>, RatesEnd>
+) -> Result<BTreeMap<u32, Rate>, End<RateFault>>
     requires first_fine { AllFine first.entries }
     requires others_fine { AllFine others.entries }
     ensures { AnswersChoice first.entries others.entries result }
@@ -94,14 +92,14 @@ pub(crate) fn add_rate(
     rates: &mut BTreeMap<u32, Rate>,
     action: u32,
     rate: &Rate,
-) -> Result<(), RatesEnd>
+) -> Result<(), End<RateFault>>
     ensures { AnswersAddition rates.old.entries rates.new.entries action rate.now result }
 {
     rate.valid();
     let sum = match rates.get(&action) {
         None => *rate,
-        Some(before) => before.add(rate).map_err(RatesEnd::Fault)?,
+        Some(before) => before.add(rate).map_err(End::Fault)?,
     };
-    rates.insert(action, sum).map_err(|_| RatesEnd::Memory)?;
+    rates.insert(action, sum).map_err(|_| End::Memory)?;
     Ok(())
 }

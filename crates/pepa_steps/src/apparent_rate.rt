@@ -4,12 +4,12 @@ ghost use Rattle.std.specs.List.Sorted.{IsStrictlyIncreasing};
 ghost use Rattle.pepa_model.specs.Expression.{expression_of};
 ghost use Rattle.pepa_model.specs.Opened.{Opened, Opens};
 ghost use Rattle.pepa_model.specs.Terms.{IsTermOf};
-ghost use Rattle.pepa_steps.specs.States.{State, StandsFor, has};
+ghost use Rattle.pepa_steps.specs.States.{State, StandsFor, ForEachState, has};
 ghost use Rattle.pepa_steps.specs.OpenStates.{OpenState, OpensState};
 ghost use Rattle.pepa_steps.specs.ApparentAnswers.{AnswersOpened, CanOpen, IsTogether};
 ghost use Rattle.pepa_steps.specs.StateRates.{IsApparentAnswer, AnswersTree, IsOfCooperation};
 
-use crate::sets::{is_in, types_of};
+use crate::sets::is_in;
 use pepa_model::{MAX_HEIGHT, Model, Sequential, Term};
 use pepa_rates::{Rate, RateFault};
 
@@ -20,9 +20,10 @@ use pepa_rates::{Rate, RateFault};
 pub fn apparent(model: &Model, term: &Term, action: u32) -> Result<Option<Rate>, RateFault>
     requires of_model { IsTermOf model.now term.now }
     requires no_tau { 0 < action }
-    ensures { (state : State) → StandsFor model.now state term.now → IsApparentAnswer model.now.bodies state action result }
+    ensures { ForEachState model.now term.now
+        (λ state. IsApparentAnswer model.now.bodies state action result) }
 {
-    model.is_sound();
+    model.recall_invariant();
     term_rate(model, term, action)
 }
 
@@ -32,17 +33,17 @@ fn term_rate(model: &Model, term: &Term, action: u32) -> Result<Option<Rate>, Ra
     ensures { (state : State) (tree : OpenState) → StandsFor model.now state term.now
         → OpensState model.now.bodies state tree → AnswersTree tree action result }
 {
-    model.is_sound();
+    model.recall_invariant();
     match term {
         Term::Leaf(leaf) => component_rate(model, model.leaf(*leaf), action, MAX_HEIGHT),
         Term::Coop(left, right, set) => {
             let left = term_rate(model, left, action)?;
             let right = term_rate(model, right, action)?;
-            rate_of_cooperation(types_of(model, *set), action, left, right)
+            rate_of_cooperation(model.set(*set), action, left, right)
         }
         Term::Hide(inner, set) => {
             let inner = term_rate(model, inner, action)?;
-            Ok(rate_of_hiding(types_of(model, *set), action, inner))
+            Ok(rate_of_hiding(model.set(*set), action, inner))
         }
     }
 }
@@ -82,7 +83,8 @@ fn component_rate(
     depth: u32,
 ) -> Result<Option<Rate>, RateFault>
     requires { CanOpen model.now.bodies (expression_of component.now) depth }
-    ensures { (o : Opened) → Opens model.now.bodies (expression_of component.now) o → AnswersOpened o action result }
+    ensures { (o : Opened)
+        → Opens model.now.bodies (expression_of component.now) o → AnswersOpened o action result }
 {
     match component {
         Sequential::Prefix(own, rate, _next) => {

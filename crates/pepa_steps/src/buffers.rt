@@ -16,7 +16,7 @@ pub(crate) enum Mark {
     Joined(usize, usize, usize),
 }
 
-/// The list of a term without targets, with what tells where its entries come from; and what is known of the model's leaves.
+/// The list of a term without targets, with where its entries come from; and what is known of the model's leaves.
 ///
 /// They are for one model: the leaves' apparent rates are kept from one call of `load` to the next.
 #[derive(Drop)]

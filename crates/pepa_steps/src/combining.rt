@@ -2,39 +2,22 @@
 ghost use Rattle.std.specs.Prelude.{◌≡◌, ◌≤◌, ◌∷◌, [], ◌++◌, List, ℕ, map, length, OnOk, IfOk};
 ghost use Rattle.std.specs.List.Sorted.{IsStrictlyIncreasing};
 ghost use Rattle.pepa_rates.specs.Share.{SameKind};
-ghost use Rattle.pepa_steps.specs.Moves.{Move, move, carry, alone, joined, joined_to, joint};
-ghost use Rattle.pepa_steps.specs.Combined.{numbered, combined, rate_at, Adds, AddsJoint, IsJointEntry, AnswersCombined, AreRatedBy, IsRatedBy, AreRatedFor, AreInRangeBy};
+ghost use Rattle.pepa_steps.specs.Moves.{Move, move, carry, outside_set, joint_of, joints_with, joint_moves};
+ghost use Rattle.pepa_steps.specs.Combined.{numbered, combined, rate_at, AddsTo, AddsJoint, IsJointEntry, AnswersCombined, AreRatedBy, IsRatedBy, AreRatedFor, AreInRangeBy};
 ghost use Rattle.pepa_steps.specs.JointSteps.{HasPartners, AddsPartner, pair_count, places_from};
 ghost use Rattle.pepa_steps.specs.declared.entries.Origin.TheVariants as origin;
 
 use crate::entries::{Derived, Entry, Origin};
 use crate::sets::is_in;
 use crate::transitions::{StepFault, StepsEnd};
+use fault_ends::End;
 use pepa_model::Words32;
-use pepa_rates::Rate;
+use pepa_rates::{Rate, RateOverflow};
 use std::alloc::{AllocError, Global};
 use std::collections::BTreeMap;
 
 /// The most derivations that a part may have.
 pub(crate) const MOST_STEPS: u64 = 65_535;
-
-/// Why the joint entries of a cooperation can't be listed.
-#[derive(Clone, Copy, Debug)]
-pub(crate) enum JointEnd {
-    /// The rate of one isn't in range.
-    Overflow,
-    Memory,
-}
-
-impl From<AllocError> for JointEnd {
-    ghost use Rattle.pepa_steps.specs.declared.combining.JointEnd.TheVariants.{Memory};
-
-    ghost from_gives = { λ _ end. end ≡ Memory };
-
-    fn from(_error: AllocError) -> JointEnd {
-        JointEnd::Memory
-    }
-}
 
 /// Appends the entries of a cooperation over these types, with where they come from: those of the left side alone, of the right
 /// side alone, and of both together at their share of the apparent rates, which are given by action type.
@@ -58,7 +41,8 @@ pub fn combine(
     requires ours_range { AreInRangeBy ours.now }
     requires theirs_range { AreInRangeBy theirs.now }
     ensures { AnswersCombined derived.old derived.new
-        (combined types.now our_rates.now.entries their_rates.now.entries ours.now theirs.now) result }
+        (combined types.now our_rates.now.entries their_rates.now.entries ours.now theirs.now)
+        result }
 {
     let alone = alone_count(types, ours) + alone_count(types, theirs);
     let partners = partners_by_action(alloc, types, theirs)?;
@@ -84,7 +68,7 @@ pub fn combine(
 fn alone_count(types: &[u32], entries: &[Entry]) -> u64
     requires ascends { IsStrictlyIncreasing types.now }
     requires short { length entries.now ≤ 65535 }
-    ensures { result ≡ length (alone types.now (numbered 0 entries.now)) }
+    ensures { result ≡ length (outside_set types.now (numbered 0 entries.now)) }
 {
     let mut count: u64 = 0;
     for (_index, entry) in entries.iter().enumerate() {
@@ -103,7 +87,8 @@ fn partners_by_action(
 ) -> Result<BTreeMap<u32, Words32>, AllocError>
     requires ascends { IsStrictlyIncreasing types.now }
     requires short { length entries.now ≤ 65535 }
-    ensures { IfOk result (λ partners. HasPartners types.now (numbered 0 entries.now) partners.entries) }
+    ensures { IfOk result
+        (λ partners. HasPartners types.now (numbered 0 entries.now) partners.entries) }
 {
     let mut partners: BTreeMap<u32, Words32> = BTreeMap::new(alloc);
     for (index, entry) in entries.iter().enumerate() {
@@ -136,8 +121,10 @@ fn add_partner(
 fn joint_count(types: &[u32], ours: &[Entry], partners: &BTreeMap<u32, Words32>) -> u64
     requires ascends { IsStrictlyIncreasing types.now }
     requires short { length ours.now ≤ 65535 }
-    requires few { (vs : List (Move ℕ)) × HasPartners types.now vs partners.now.entries × (length vs ≤ 65535) }
-    ensures { (vs : List (Move ℕ)) → HasPartners types.now vs partners.now.entries → result ≡ pair_count types.now (numbered 0 ours.now) vs }
+    requires few { (vs : List (Move ℕ))
+        × HasPartners types.now vs partners.now.entries × (length vs ≤ 65535) }
+    ensures { (vs : List (Move ℕ)) → HasPartners types.now vs partners.now.entries
+        → result ≡ pair_count types.now (numbered 0 ours.now) vs }
 {
     let mut count: u64 = 0;
     for (_index, entry) in ours.iter().enumerate() {
@@ -152,8 +139,10 @@ fn joint_count(types: &[u32], ours: &[Entry], partners: &BTreeMap<u32, Words32>)
 
 /// Appends an entry, with where it comes from.
 fn push_one(derived: &mut Derived, entry: Entry, origin: Origin) -> Result<(), AllocError>
-    ensures entries { OnOk result (derived.new.entries.items ≡ derived.old.entries.items ++ entry ∷ []) }
-    ensures origins { OnOk result (derived.new.origins.items ≡ derived.old.origins.items ++ origin ∷ []) }
+    ensures entries { OnOk result
+        (derived.new.entries.items ≡ derived.old.entries.items ++ entry ∷ []) }
+    ensures origins { OnOk result
+        (derived.new.origins.items ≡ derived.old.origins.items ++ origin ∷ []) }
 {
     let Entry {
         action,
@@ -173,8 +162,8 @@ fn push_one(derived: &mut Derived, entry: Entry, origin: Origin) -> Result<(), A
 fn push_left(types: &[u32], ours: &[Entry], derived: &mut Derived) -> Result<(), AllocError>
     requires ascends { IsStrictlyIncreasing types.now }
     requires short { length ours.now ≤ 65535 }
-    ensures { OnOk result (Adds derived.old.entries.items derived.new.entries.items derived.old.origins.items derived.new.origins.items
-        (map (carry origin.Left) (alone types.now (numbered 0 ours.now)))) }
+    ensures { OnOk result (AddsTo derived.old derived.new
+        (map (carry origin.Left) (outside_set types.now (numbered 0 ours.now)))) }
 {
     for (index, entry) in ours.iter().enumerate() {
         if !is_in(types, entry.action) {
@@ -188,8 +177,8 @@ fn push_left(types: &[u32], ours: &[Entry], derived: &mut Derived) -> Result<(),
 fn push_right(types: &[u32], theirs: &[Entry], derived: &mut Derived) -> Result<(), AllocError>
     requires ascends { IsStrictlyIncreasing types.now }
     requires short { length theirs.now ≤ 65535 }
-    ensures { OnOk result (Adds derived.old.entries.items derived.new.entries.items derived.old.origins.items derived.new.origins.items
-        (map (carry origin.Right) (alone types.now (numbered 0 theirs.now)))) }
+    ensures { OnOk result (AddsTo derived.old derived.new
+        (map (carry origin.Right) (outside_set types.now (numbered 0 theirs.now)))) }
 {
     for (index, entry) in theirs.iter().enumerate() {
         if !is_in(types, entry.action) {
@@ -208,14 +197,16 @@ fn push_joint(
     their_rates: &BTreeMap<u32, Rate>,
     partners: &BTreeMap<u32, Words32>,
     derived: &mut Derived,
-) -> Result<(), JointEnd>
+) -> Result<(), End<RateOverflow>>
     requires ascends { IsStrictlyIncreasing types.now }
     requires ours_short { length ours.now ≤ 65535 }
     requires ours_rated { AreRatedBy types.now our_rates.now.entries ours.now }
     requires theirs_rated { AreRatedBy types.now their_rates.now.entries theirs.now }
     requires partners { HasPartners types.now (numbered 0 theirs.now) partners.now.entries }
     ensures { AddsJoint derived.old derived.new
-        (joint origin.Both types.now (rate_at our_rates.now.entries) (rate_at their_rates.now.entries) (numbered 0 ours.now) (numbered 0 theirs.now)) result }
+        (joint_moves origin.Both types.now
+        (rate_at our_rates.now.entries) (rate_at their_rates.now.entries)
+        (numbered 0 ours.now) (numbered 0 theirs.now)) result }
 {
     for (index, entry) in ours.iter().enumerate() {
         if is_in(types, entry.action) {
@@ -244,13 +235,13 @@ fn push_partners(
     their_rates: &BTreeMap<u32, Rate>,
     indices: &Words32,
     derived: &mut Derived,
-) -> Result<(), JointEnd>
+) -> Result<(), End<RateOverflow>>
     requires ours_rated { IsRatedBy our_rates.now.entries entry }
     requires theirs_rated { AreRatedFor entry.action their_rates.now.entries theirs.now }
     requires places { indices.now ≡ places_from 0 entry.action (numbered 0 theirs.now) }
     ensures { AddsJoint derived.old derived.new
-        (joined_to origin.Both (rate_at our_rates.now.entries) (rate_at their_rates.now.entries) (numbered 0 theirs.now)
-        (move entry.action entry.signals entry.rate place)) result }
+        (joints_with origin.Both (rate_at our_rates.now.entries) (rate_at their_rates.now.entries)
+        (numbered 0 theirs.now) (move entry.action entry.signals entry.rate place)) result }
 {
     // A side without an apparent rate of the action has no entry by it.
     let Some(our_rate) = our_rates.get(&entry.action) else {
@@ -273,14 +264,12 @@ fn joint_entry(
     our_rate: &Rate,
     other: &Entry,
     their_rate: &Rate,
-) -> Result<Entry, JointEnd>
+) -> Result<Entry, End<RateOverflow>>
     requires ours { SameKind entry.now.rate our_rate.now }
     requires theirs { SameKind other.now.rate their_rate.now }
     ensures { IsJointEntry entry.now our_rate.now other.now their_rate.now result }
 {
-    let Ok(rate) = Rate::share(&entry.rate, our_rate, &other.rate, their_rate) else {
-        return Err(JointEnd::Overflow);
-    };
+    let rate = Rate::share(&entry.rate, our_rate, &other.rate, their_rate).map_err(End::Fault)?;
     Ok(Entry {
         action: entry.action,
         signals: entry.signals | other.signals,

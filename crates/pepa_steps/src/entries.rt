@@ -1,4 +1,4 @@
-//! What a system does, as lists without targets, beside which stands where each entry comes from.
+//! What a system does, as lists without targets, and where each entry comes from.
 ghost use Rattle.std.specs.Prelude.{◌≡◌, []};
 
 use pepa_rates::Rate;

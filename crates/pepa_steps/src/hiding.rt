@@ -6,9 +6,7 @@ ghost use Rattle.pepa_steps.specs.Hidings.{hidden_entry};
 
 use crate::entries::Entry;
 use crate::sets::is_in;
-
-/// The number of the action type `tau`.
-const TAU: u32 = 0;
+use pepa_model::TAU;
 
 /// Turns the entries of what is hidden into those of a hiding of these types: a hidden type becomes `tau`. Each entry comes from
 /// the one at its place.

@@ -2,7 +2,7 @@
 ghost use Rattle.std.specs.Prelude.{◌≡◌, ◌<◌, ◌≤◌, ◌∷◌, [], ◌++◌, List, map, length, OnOk, IfOk};
 ghost use Rattle.std.specs.List.Sorted.{IsStrictlyIncreasing};
 ghost use Rattle.pepa_model.specs.Terms.{LeafNode, term_of, IsTermOf};
-ghost use Rattle.pepa_steps.specs.States.{State, StandsFor};
+ghost use Rattle.pepa_steps.specs.States.{ForEachState};
 ghost use Rattle.pepa_steps.specs.ActionRates.{AllFine};
 ghost use Rattle.pepa_steps.specs.StateRates.{AnswersRatesBy, rates_of_cooperation, rates_of_hiding};
 ghost use Rattle.pepa_steps.specs.Combined.{AnswersCombined, entry_of, target_of, combined};
@@ -11,13 +11,12 @@ ghost use Rattle.pepa_steps.specs.Traces.{AreFor, HasList, AnswersLoad, AnswersC
 ghost use Rattle.pepa_steps.specs.ListAnswers.{IsListAnswer};
 ghost use Rattle.pepa_steps.specs.declared.entries.Entry.{Entry};
 
-use crate::action_rates::{RatesEnd, choice_rates};
+use crate::action_rates::choice_rates;
 use crate::buffers::{Buffers, Mark};
 use crate::combining::{MOST_STEPS, combine};
 use crate::entries::{Derived, Entry, Origin};
 use crate::hiding::hide;
 use crate::leaf_rates::leaf_rates;
-use crate::sets::types_of;
 use crate::state_rates::{cooperation_rates, hiding_rates};
 use crate::transitions::{StepFault, StepsEnd};
 use pepa_model::{Activity, Model, Term};
@@ -46,10 +45,11 @@ pub fn load(
     requires of_model { IsTermOf model.now term.now }
     requires of_buffers { AreFor model.now buffers.old }
     ensures of_buffers { AreFor model.now buffers.new }
-    ensures list { (state : State) → StandsFor model.now state term.now → IsListAnswer model.now state (entries_in buffers.new) result }
+    ensures list { ForEachState model.now term.now
+        (λ state. IsListAnswer model.now state (entries_in buffers.new) result) }
     ensures loaded { OnOk result (HasList model.now term.now buffers.new) }
 {
-    model.is_sound();
+    model.recall_invariant();
     buffers.entries.clear();
     buffers.origins.clear();
     buffers.marks.clear();
@@ -58,7 +58,7 @@ pub fn load(
     Ok(())
 }
 
-/// Puts what a part does behind the entries that are there.
+/// Puts what a part does after the entries that are there.
 fn load_part(
     alloc: Global,
     model: &Model,
@@ -70,22 +70,22 @@ fn load_part(
     ensures of_buffers { AreFor model.now buffers.new }
     ensures answers { AnswersLoad model.now (term_of term.now) buffers.old buffers.new result }
 {
-    model.is_sound();
+    model.recall_invariant();
     match term {
         Term::Leaf(leaf) => load_leaf(alloc, model, *leaf, buffers),
         Term::Coop(left, right, set) => {
             let left = load_part(alloc, model, left, buffers)?;
             let right = load_part(alloc, model, right, buffers)?;
-            load_cooperation(alloc, types_of(model, *set), left, right, buffers)
+            load_cooperation(alloc, model.set(*set), left, right, buffers)
         }
         Term::Hide(inner, set) => {
             let inner = load_part(alloc, model, inner, buffers)?;
-            load_hiding(alloc, types_of(model, *set), inner, buffers)
+            load_hiding(alloc, model.set(*set), inner, buffers)
         }
     }
 }
 
-/// Puts what a leaf does behind the entries that are there.
+/// Puts what a leaf does after the entries that are there.
 fn load_leaf(
     alloc: Global,
     model: &Model,
@@ -97,7 +97,7 @@ fn load_leaf(
     ensures of_buffers { AreFor model.now buffers.new }
     ensures answers { AnswersLoad model.now (LeafNode leaf) buffers.old buffers.new result }
 {
-    model.is_sound();
+    model.recall_invariant();
     let start = buffers.entries.len();
     push_activities(model.activities(leaf), &mut buffers.entries)?;
     let rates = leaf_rates(alloc, model, leaf, &mut buffers.kept)?;
@@ -110,7 +110,8 @@ fn load_leaf(
 
 /// Appends the activities of a leaf, as entries.
 fn push_activities(activities: &[Activity], entries: &mut Vec<Entry>) -> Result<(), AllocError>
-    ensures { OnOk result (entries.new.items ≡ entries.old.items ++ map (λ a. entry_of (activity_node a)) activities.now) }
+    ensures { OnOk result (entries.new.items
+        ≡ entries.old.items ++ map (λ a. entry_of (activity_node a)) activities.now) }
 {
     for activity in activities {
         entries.push(Entry {
@@ -133,7 +134,8 @@ fn load_cooperation(
     requires ascends { IsStrictlyIncreasing types.now }
     requires ready { EndsReady types.now buffers.old.entries.items left right }
     ensures kept { buffers.new.kept ≡ buffers.old.kept }
-    ensures answers { (front us vs : List Entry) → Ends buffers.old.entries.items front us vs left.start right.start
+    ensures answers { (front us vs : List Entry)
+        → Ends buffers.old.entries.items front us vs left.start right.start
         → AnswersCoop types.now front us vs left right buffers.old buffers.new result }
 {
     if types.is_empty() {
@@ -143,11 +145,12 @@ fn load_cooperation(
     }
 }
 
-/// A cooperation over no types has the entries of its sides as they stand.
+/// A cooperation over no types has the entries of its sides, unchanged.
 fn load_beside(left: Found, right: Found, buffers: &mut Buffers) -> Result<Found, StepsEnd>
     requires { EndsReady [] buffers.old.entries.items left right }
     ensures kept { buffers.new.kept ≡ buffers.old.kept }
-    ensures answers { (front us vs : List Entry) → Ends buffers.old.entries.items front us vs left.start right.start
+    ensures answers { (front us vs : List Entry)
+        → Ends buffers.old.entries.items front us vs left.start right.start
         → AnswersCoop [] front us vs left right buffers.old buffers.new result }
 {
     let start = left.start;
@@ -171,7 +174,8 @@ fn load_joined(
     requires ascends { IsStrictlyIncreasing types.now }
     requires ready { EndsReady types.now buffers.old.entries.items left right }
     ensures kept { buffers.new.kept ≡ buffers.old.kept }
-    ensures answers { (front us vs : List Entry) → Ends buffers.old.entries.items front us vs left.start right.start
+    ensures answers { (front us vs : List Entry)
+        → Ends buffers.old.entries.items front us vs left.start right.start
         → AnswersCoop types.now front us vs left right buffers.old buffers.new result }
 {
     let rates = cooperation_rates(alloc, types, &left.rates, &right.rates)?;
@@ -206,7 +210,7 @@ fn push_mark(mark: Mark, marks: &mut Vec<Mark>) -> Result<usize, AllocError>
     Ok(at)
 }
 
-/// Puts the combination of both sides' entries in their place, and where they come from behind the other origins.
+/// Puts the combination of both sides' entries in their place, and where they come from after the other origins.
 fn replace_ends(
     alloc: Global,
     types: &[u32],
@@ -218,7 +222,8 @@ fn replace_ends(
 ) -> Result<(), StepsEnd>
     requires ascends { IsStrictlyIncreasing types.now }
     requires ready { EndsReady types.now entries.old.items left.now right.now }
-    ensures { (front us vs : List Entry) → Ends entries.old.items front us vs left.now.start right.now.start
+    ensures { (front us vs : List Entry)
+        → Ends entries.old.items front us vs left.now.start right.now.start
         → AnswersReplaced front entries.new.items origins.old.items origins.new.items
         (combined types.now left.now.rates.entries right.now.rates.entries us vs) result }
 {

@@ -2,11 +2,12 @@
 ghost use Rattle.std.specs.List.Sorted.{IsStrictlyIncreasing};
 ghost use Rattle.pepa_steps.specs.ActionRates.{AllFine, AnswersChoice};
 ghost use Rattle.pepa_steps.specs.StateRates.{AnswersRatesBy, rates_of_cooperation, rates_of_hiding};
-ghost use Rattle.pepa_steps.specs.CooperationRates.{AnswersSetting, MakesRates, rates_of_left, outside};
+ghost use Rattle.pepa_steps.specs.CooperationRates.{AnswersSetting, MakesRates, rates_of_left, rates_outside};
 
-use crate::action_rates::{RatesEnd, add_rate};
+use crate::action_rates::add_rate;
 use crate::sets::is_in;
-use pepa_rates::Rate;
+use fault_ends::End;
+use pepa_rates::{Rate, RateFault};
 use std::alloc::Global;
 use std::collections::BTreeMap;
 
@@ -17,11 +18,12 @@ pub(crate) fn cooperation_rates(
     types: &[u32],
     left: &BTreeMap<u32, Rate>,
     right: &BTreeMap<u32, Rate>,
-) -> Result<BTreeMap<u32, Rate>, RatesEnd>
+) -> Result<BTreeMap<u32, Rate>, End<RateFault>>
     requires ascends { IsStrictlyIncreasing types.now }
     requires left_fine { AllFine left.now.entries }
     requires right_fine { AllFine right.now.entries }
-    ensures { AnswersRatesBy (rates_of_cooperation types.now left.now.entries right.now.entries) result }
+    ensures { AnswersRatesBy
+        (rates_of_cooperation types.now left.now.entries right.now.entries) result }
 {
     let first = left_rates(alloc, types, left, right)?;
     add_outside(types, first, right)
@@ -33,7 +35,7 @@ fn left_rates(
     types: &[u32],
     left: &BTreeMap<u32, Rate>,
     right: &BTreeMap<u32, Rate>,
-) -> Result<BTreeMap<u32, Rate>, RatesEnd>
+) -> Result<BTreeMap<u32, Rate>, End<RateFault>>
     requires ascends { IsStrictlyIncreasing types.now }
     requires left_fine { AllFine left.now.entries }
     requires right_fine { AllFine right.now.entries }
@@ -55,10 +57,10 @@ fn add_outside(
     types: &[u32],
     first: BTreeMap<u32, Rate>,
     others: &BTreeMap<u32, Rate>,
-) -> Result<BTreeMap<u32, Rate>, RatesEnd>
+) -> Result<BTreeMap<u32, Rate>, End<RateFault>>
     requires ascends { IsStrictlyIncreasing types.now }
     requires fine { AllFine first.entries }
-    ensures { AnswersChoice first.entries (outside types.now others.now.entries) result }
+    ensures { AnswersChoice first.entries (rates_outside types.now others.now.entries) result }
 {
     let mut all = first;
     for (action, rate) in others {
@@ -74,7 +76,7 @@ pub(crate) fn hiding_rates(
     alloc: Global,
     types: &[u32],
     inner: &BTreeMap<u32, Rate>,
-) -> Result<BTreeMap<u32, Rate>, RatesEnd>
+) -> Result<BTreeMap<u32, Rate>, End<RateFault>>
     requires ascends { IsStrictlyIncreasing types.now }
     requires fine { AllFine inner.now.entries }
     ensures { AnswersRatesBy (rates_of_hiding types.now inner.now.entries) result }
@@ -89,9 +91,9 @@ pub(crate) fn hiding_rates(
 }
 
 // Gives an action this rate.
-fn set_rate(rates: &mut BTreeMap<u32, Rate>, action: u32, rate: Rate) -> Result<(), RatesEnd>
+fn set_rate(rates: &mut BTreeMap<u32, Rate>, action: u32, rate: Rate) -> Result<(), End<RateFault>>
     ensures { AnswersSetting rates.old.entries rates.new.entries action rate result }
 {
-    rates.insert(action, rate).map_err(|_| RatesEnd::Memory)?;
+    rates.insert(action, rate).map_err(|_| End::Memory)?;
     Ok(())
 }

@@ -1,10 +1,9 @@
 //! Targets on demand.
 ghost use Rattle.std.specs.Prelude.{◌≡◌, ◌<◌, IfOk, List, Some, length, slice_get};
 ghost use Rattle.pepa_model.specs.Terms.{TermNode, CoopNode, HideNode, term_of, IsNodeOf, IsTermOf};
-ghost use Rattle.pepa_steps.specs.States.{State, StateTransition, StandsFor};
 ghost use Rattle.pepa_steps.specs.PartAnswers.{StepNode};
-ghost use Rattle.pepa_steps.specs.Traces.{Traces, HasList, entries_in};
-ghost use Rattle.pepa_steps.specs.ListAnswers.{IsTransitionAt};
+ghost use Rattle.pepa_steps.specs.Traces.{TracesIn, HasList, entries_in};
+ghost use Rattle.pepa_steps.specs.ListAnswers.{IsTargetAt};
 
 use crate::buffers::Buffers;
 use crate::sources::{Source, find_source};
@@ -22,10 +21,9 @@ pub fn target(
     requires loaded { HasList model.now term.now buffers.now }
     requires index { index < length (entries_in buffers.now) }
     ensures of_model { IfOk result (IsTermOf model.now) }
-    ensures stands { IfOk result (λ made. (state : State) (transition : StateTransition) → StandsFor model.now state term.now
-        → IsTransitionAt model.now.bodies state index transition → StandsFor model.now transition.target made) }
+    ensures stands { IfOk result (IsTargetAt model.now term.now index) }
 {
-    model.is_sound();
+    model.recall_invariant();
     step_target(alloc, model, term, buffers, buffers.mark, index)
 }
 
@@ -39,8 +37,10 @@ fn step_target(
     index: usize,
 ) -> Result<Term, AllocError>
     requires of_model { IsTermOf model.now term.now }
-    requires traced { (steps : List StepNode) × Traces model.now buffers.now.marks.items buffers.now.origins.items (term_of term.now) at steps × (index < length steps) }
-    ensures { IfOk result (λ made. (steps : List StepNode) → Traces model.now buffers.now.marks.items buffers.now.origins.items (term_of term.now) at steps
+    requires traced { (steps : List StepNode)
+        × TracesIn model.now buffers.now (term_of term.now) at steps × (index < length steps) }
+    ensures { IfOk result (λ made. (steps : List StepNode)
+        → TracesIn model.now buffers.now (term_of term.now) at steps
         → (step : StepNode) → slice_get steps index ≡ Some step → term_of made ≡ step.target) }
 {
     match term {

@@ -2,18 +2,17 @@
 ghost use Rattle.std.specs.Prelude.{◌≡◌, List, IfOk};
 ghost use Rattle.std.specs.List.{AllZip};
 ghost use Rattle.pepa_model.specs.Terms.{IsTermOf};
-ghost use Rattle.pepa_steps.specs.States.{State, StateTransition, StandsFor, StepStandsFor};
+ghost use Rattle.pepa_steps.specs.States.{State, StateTransition, StandsFor, ForEachState, StepStandsFor};
 ghost use Rattle.pepa_steps.specs.Rules.{IsTransitionList};
-ghost use Rattle.pepa_steps.specs.StepsAnswers.{IsStepsAnswer};
+ghost use Rattle.pepa_steps.specs.StepsAnswers.{IsStepsResult};
 ghost use Rattle.pepa_steps.specs.Traces.{HasList};
 
-use crate::action_rates::RatesEnd;
 use crate::buffers::Buffers;
-use crate::combining::JointEnd;
 use crate::loading::load;
 use crate::targets::target;
+use fault_ends::End;
 use pepa_model::{Model, Step, StepList, Term};
-use pepa_rates::RateFault;
+use pepa_rates::{RateFault, RateOverflow};
 use std::alloc::{AllocError, Global};
 
 /// A fault of a term, by which its verdict names it.
@@ -46,29 +45,29 @@ impl From<AllocError> for StepsEnd {
     }
 }
 
-impl From<RatesEnd> for StepsEnd {
+impl From<End<RateFault>> for StepsEnd {
     ghost use Rattle.pepa_steps.specs.EndNames.{rates_end};
 
     ghost from_gives = { λ end other. other ≡ rates_end end };
 
-    fn from(end: RatesEnd) -> StepsEnd {
+    fn from(end: End<RateFault>) -> StepsEnd {
         match end {
-            RatesEnd::Fault(RateFault::Mixed) => StepsEnd::Fault(StepFault::Mixed),
-            RatesEnd::Fault(RateFault::Overflow) => StepsEnd::Fault(StepFault::Overflow),
-            RatesEnd::Memory => StepsEnd::Memory,
+            End::Fault(RateFault::Mixed) => StepsEnd::Fault(StepFault::Mixed),
+            End::Fault(RateFault::Overflow) => StepsEnd::Fault(StepFault::Overflow),
+            End::Memory => StepsEnd::Memory,
         }
     }
 }
 
-impl From<JointEnd> for StepsEnd {
+impl From<End<RateOverflow>> for StepsEnd {
     ghost use Rattle.pepa_steps.specs.EndNames.{joint_end};
 
     ghost from_gives = { λ end other. other ≡ joint_end end };
 
-    fn from(end: JointEnd) -> StepsEnd {
+    fn from(end: End<RateOverflow>) -> StepsEnd {
         match end {
-            JointEnd::Overflow => StepsEnd::Fault(StepFault::Overflow),
-            JointEnd::Memory => StepsEnd::Memory,
+            End::Fault(RateOverflow) => StepsEnd::Fault(StepFault::Overflow),
+            End::Memory => StepsEnd::Memory,
         }
     }
 }
@@ -81,9 +80,9 @@ impl From<JointEnd> for StepsEnd {
 /// derivations; `Overflow`, if the rate of one isn't in range. `Memory` says only that memory ran out.
 pub fn steps(alloc: Global, model: &Model, term: &Term) -> Result<StepList, StepsEnd>
     requires { IsTermOf model.now term.now }
-    ensures { (state : State) → StandsFor model.now state term.now → IsStepsAnswer model.now state result }
+    ensures { ForEachState model.now term.now (λ state. IsStepsResult model.now state result) }
 {
-    model.is_sound();
+    model.recall_invariant();
     let mut buffers = Buffers::new(alloc);
     load(alloc, model, term, &mut buffers)?;
     Ok(StepList::from_vec(steps_listed(alloc, model, term, &buffers)?))
@@ -97,10 +96,11 @@ fn steps_listed(
     buffers: &Buffers,
 ) -> Result<Vec<Step>, AllocError>
     requires { HasList model.now term.now buffers.now }
-    ensures { IfOk result (λ list. (state : State) (transitions : List StateTransition) → StandsFor model.now state term.now
-        → IsTransitionList model.now.bodies state transitions → AllZip (StepStandsFor model.now) list.items transitions) }
+    ensures { IfOk result (λ list. (state : State) (transitions : List StateTransition)
+        → StandsFor model.now state term.now → IsTransitionList model.now.bodies state transitions
+        → AllZip (StepStandsFor model.now) list.items transitions) }
 {
-    model.is_sound();
+    model.recall_invariant();
     let mut list = Vec::new(alloc);
     for (index, entry) in buffers.entries().iter().enumerate() {
         list.push(Step {

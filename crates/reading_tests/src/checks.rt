@@ -3,6 +3,7 @@
 mod limits;
 mod mixed;
 mod models;
+mod structure;
 
 use pepa_checks::{CheckCause, CheckEnd, check};
 use pepa_lexer::{LexFault, Place, tokens};

@@ -1,7 +1,6 @@
 -- Calls of the output.
-use Rattle.std.proofs.Common.{◌≡◌, ℕ, List, [], Result, Ok, Err, MatchResult, refl, subst, sym, ap, ◌∙◌}
+use Rattle.std.proofs.Common.{◌≡◌, ℕ, List, [], Result, Ok, Err, refl, sym, ◌∙◌}
 use Rattle.sim_outside.specs.declared.source.Failed.{Failed}
-use Rattle.sim_outside.specs.Writes.{OffersAll}
 use Rattle.sim_command.specs.DeviceCalls.{IsWrittenOnce, IsDeliveredBy}
 
 -- no write at all writes an empty piece

@@ -26,9 +26,9 @@ written_of_model Check m answer out counted wrote = counted.status_is
 written_of_model Print m answer out printed wrote = printed.status_is
 
 -- so has any answer
-written_is_listed : (command : Command) (input : List ℕ) (answer : Answered) (out : Seen) → IsAnswer command input answer → WroteFront out answer.out → answer.status ≡ 0
-written_is_listed command input answer out (inl unread) wrote = absurd (no_front out answer.out unread.refused.out_is wrote)
-written_is_listed command input answer out (inr read) wrote = written_of_model command read.model answer out read.answer wrote
+written_has_status_0 : (command : Command) (input : List ℕ) (answer : Answered) (out : Seen) → IsAnswer command input answer → WroteFront out answer.out → answer.status ≡ 0
+written_has_status_0 command input answer out (inl unread) wrote = absurd (no_front out answer.out unread.refused.out_is wrote)
+written_has_status_0 command input answer out (inr read) wrote = written_of_model command read.model answer out read.answer wrote
 
 pub ending : (words : List (List ℕ)) (command : Command) (source out : Seen) (input line : List ℕ) (status : ℕ) → IsCommand words command → length input ≤ 2 ^ 20
     → AreAllLeft source.bytes_before source.bytes_after input → NoneFailed source → IsInputEnding command input out line status → IsEnding words source out line status
@@ -39,5 +39,5 @@ ending words command source out input line status is_command few read sound (inr
     inr (inr (inr (inr (inl (record { answer = answer; answered = answered; status_is = delivered.0; wrote = delivered.1; line_is = delivered.2 })))))
 ending words command source out input line status is_command few read sound (inr (answer, is, inr failed)) =
     let answered : IsAnswered words source answer = record { command = command; is_command = is_command; input = input; few = few; read = read; none_failed = sound; is = is } in
-    let listed = written_is_listed command input answer out is failed.1 in
-    inr (inr (inr (inr (inr (record { answer = answer; answered = answered; listed = listed; status_is = failed.0; wrote = failed.1; line_is = failed.2 })))))
+    let fine = written_has_status_0 command input answer out is failed.1 in
+    inr (inr (inr (inr (inr (record { answer = answer; answered = answered; is_fine = fine; status_is = failed.0; wrote = failed.1; line_is = failed.2 })))))

@@ -1,12 +1,8 @@
-pub mod LineLemmas
 pub mod WordLists
 pub mod Printable
 pub mod ModelReading
 pub mod OneOutcome
-pub mod SystemLeaves
-pub mod LeafLookup
 pub mod Answers
-pub mod FirstTerms
 pub mod Endings
 pub mod Statuses
 pub mod DeviceCalls
@@ -14,4 +10,3 @@ pub mod SoundEndings
 pub mod WordsOutcome
 pub mod OneAnswer
 pub mod PrintedAgain
-pub mod StepJudgements

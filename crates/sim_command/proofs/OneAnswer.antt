@@ -11,18 +11,19 @@ use Rattle.pepa_steps.specs.StateVerdict.{IsWithoutFault}
 use Rattle.pepa_steps.specs.WholeVerdict.{HasPassive, AreWeighed, rates_of, StateStop, OfPart, OfPassive, OfWeights, IsWholeVerdict}
 use Rattle.pepa_steps.proofs.OneState.{one_list}
 use Rattle.pepa_steps.proofs.OneVerdict.{one_verdict, verdict_or_none}
-use Rattle.sim_command.specs.FirstStates.{IsFirstState, expanded_state}
+use Rattle.probe_attach.specs.FirstStates.{IsFirstState, expanded_state}
 use Rattle.pepa_checks.proofs.OneTree.{one_expansion}
 use Rattle.sim_command.specs.declared.answered.Answered.{Answered}
 use Rattle.sim_command.specs.declared.words.Command.{Command}
 use Rattle.sim_command.specs.declared.words.Command.TheVariants.{Steps, Check, Print}
-use Rattle.sim_command.specs.declared.fault.FaultName.{FaultName}
-use Rattle.sim_command.specs.declared.fault.Fault.{Fault}
-use Rattle.sim_command.specs.declared.fault.Fault.TheVariants as faults
-use Rattle.sim_command.specs.TransitionsText.{transitions_text}
-use Rattle.sim_command.specs.Systems.{HasLeaves}
-use Rattle.sim_command.specs.CheckText.{counts_text, IsCheckText}
-use Rattle.sim_command.specs.ModelAnswers.{IsRefusal, IsStopped, IsListed, IsStepsAnswer, IsModelAnswer, told_stop}
+use Rattle.sim_report.specs.declared.fault.FaultName.{FaultName}
+use Rattle.sim_report.specs.declared.fault.Fault.{Fault}
+use Rattle.sim_report.specs.declared.fault.Fault.TheVariants as faults
+use Rattle.sim_report.specs.TransitionsText.{transitions_text}
+use Rattle.probe_attach.specs.Systems.{HasLeaves}
+use Rattle.sim_report.specs.CheckText.{counts_text, IsCheckText}
+use Rattle.sim_command.specs.ModelAnswers.{IsRefusalAnswer, IsStopped, IsListed, IsStepsAnswer, IsModelAnswer}
+use Rattle.sim_space.specs.Stops.{stop_of_verdict}
 use Rattle.sim_command.specs.Answer.{IsUnread, IsAnswer}
 use Rattle.sim_command.proofs.OneOutcome.{one_model_fault, model_or_fault}
 
@@ -33,7 +34,7 @@ same_parts : (x y : Answered) → x.status ≡ y.status → x.out ≡ y.out → 
 same_parts x y status out line =
     ap (λ (s : ℕ). answer s x.out x.line) status ∙ ap (λ (o : List ℕ). answer y.status o x.line) out ∙ ap (λ (l : List ℕ). answer y.status y.out l) line
 
-same_refusal : (x y : Answered) (status : ℕ) (fault : Fault) → IsRefusal x status fault → IsRefusal y status fault → x ≡ y
+same_refusal : (x y : Answered) (status : ℕ) (fault : Fault) → IsRefusalAnswer x status fault → IsRefusalAnswer y status fault → x ≡ y
 same_refusal x y status fault h k = same_parts x y (h.status_is ∙ sym k.status_is) (h.out_is ∙ sym k.out_is) (h.line_is ∙ sym k.line_is)
 
 -- a model has one first state
@@ -67,7 +68,7 @@ module _ (m : PepaModel) (x y : Answered) where
   both_stopped h k =
       let state = one_first m k.state h.state k.first h.first in
       let same : h.stop ≡ k.stop = one_stop m.bodies h.state h.stop k.stop h.verdict (subst (λ (s : State). IsWholeVerdict m.bodies s k.stop) state k.verdict) in
-      same_refusal x y 6 (faults.StepsStopped (told_stop k.stop)) (subst (λ (s : StateStop). IsRefusal x 6 (faults.StepsStopped (told_stop s))) same h.refused) k.refused
+      same_refusal x y 6 (faults.StepsStopped (stop_of_verdict k.stop)) (subst (λ (s : StateStop). IsRefusalAnswer x 6 (faults.StepsStopped (stop_of_verdict s))) same h.refused) k.refused
 
   both_listed : IsListed m x → IsListed m y → x ≡ y
   both_listed h k =
@@ -102,8 +103,8 @@ one_model_answer Print m x y h k = same_parts x y (h.status_is ∙ sym k.status_
 both_unread : (input : List ℕ) (x y : Answered) → IsUnread input x → IsUnread input y → x ≡ y
 both_unread input x y h k =
     let (place, name) = one_model_fault input h.place k.place h.name k.name h.is_fault k.is_fault in
-    let moved : IsRefusal x 3 (faults.Model k.place h.name) = subst (λ (p : Place). IsRefusal x 3 (faults.Model p h.name)) place h.refused in
-    same_refusal x y 3 (faults.Model k.place k.name) (subst (λ (n : FaultName). IsRefusal x 3 (faults.Model k.place n)) name moved) k.refused
+    let moved : IsRefusalAnswer x 3 (faults.Model k.place h.name) = subst (λ (p : Place). IsRefusalAnswer x 3 (faults.Model p h.name)) place h.refused in
+    same_refusal x y 3 (faults.Model k.place k.name) (subst (λ (n : FaultName). IsRefusalAnswer x 3 (faults.Model k.place n)) name moved) k.refused
 
 pub one_answer : (command : Command) (input : List ℕ) (x y : Answered) → IsAnswer command input x → IsAnswer command input y → x ≡ y
 one_answer command input x y (inl h) (inl k) = both_unread input x y h k

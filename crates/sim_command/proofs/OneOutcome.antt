@@ -3,24 +3,24 @@ use Rattle.std.proofs.Common.{◌≡◌, ℕ, List, Some, slice_get, inl, inr, s
 use Rattle.pepa_lexer.specs.declared.kinds.Place.{Place}
 use Rattle.pepa_lexer.specs.declared.kinds.Token.{Token}
 use Rattle.pepa_lexer.proofs.OneAnswer.{one_list, no_fault, one_fault}
-use Rattle.pepa_reader.specs.declared.terminal.Terminal.{Terminal}
+use Rattle.token_grammar.specs.declared.terminal.Terminal.{Terminal}
 use Rattle.pepa_reader.specs.declared.trees.FileTree.{FileTree}
 use Rattle.pepa_reader.specs.declared.fault.FileFault.{FileFault}
-use Rattle.pepa_reader.specs.Terminals.{terminals}
+use Rattle.token_grammar.specs.Terminals.{terminals}
 use Rattle.pepa_reader.specs.Trees.{FileNode, file_node_of, file_tree}
 use Rattle.pepa_reader.specs.FileAnswers.{IsFaultAt, IsFileFault, IsFileTree}
 use Rattle.pepa_reader.proofs.ItemLaws.{one_file}
 use Rattle.pepa_reader.proofs.FileLaws as files
 use Rattle.pepa_model.specs.PepaModel.{PepaModel}
-use Rattle.pepa_resolver.specs.declared.cause.CheckCause.{CheckCause}
-use Rattle.pepa_checks.specs.CheckedFiles.{IsRefused, IsModelOf, Reads}
+use Rattle.pepa_checks.specs.declared.cause.CheckCause.{CheckCause}
+use Rattle.pepa_checks.specs.CheckedFiles.{IsRefused, IsModelOf, IsShortTextOf}
 use Rattle.pepa_checks.proofs.OneRefusal.{one_refusal, refused_or_read}
-use Rattle.sim_command.specs.declared.fault.FaultName.{FaultName}
+use Rattle.sim_report.specs.declared.fault.FaultName.{FaultName}
 use Rattle.sim_command.specs.declared.model_reading.ModelFault.{ModelFault}
 use Rattle.sim_command.specs.declared.model_reading.ModelFault.TheVariants.{Refused}
-use Rattle.sim_command.specs.ModelFaults.{told_of_tokens, told_of_file, cause_name, IsTokensFault, IsGrammarFault, IsCheckFault, IsModelFault}
+use Rattle.sim_command.specs.ModelFaults.{fault_from_tokens, fault_from_file, cause_name, IsTokensFault, IsGrammarFault, IsCheckFault, IsModelFault}
 
--- ---- what is told is one place and one name
+-- ---- a fault has one place and one name
 
 abbrev Same : Place → Place → FaultName → FaultName → Type 0
 Same here there name other = (here ≡ there) × (name ≡ other)
@@ -28,8 +28,8 @@ Same here there name other = (here ≡ there) × (name ≡ other)
 same_parts : (here there : Place) (name other : FaultName) → Refused here name ≡ Refused there other → Same here there name other
 same_parts here there name other e = (cc, cc)
 
-same_told : {X : Type 0} (told : X → ModelFault) (x y : X) (here there : Place) (name other : FaultName) → x ≡ y → told x ≡ Refused here name → told y ≡ Refused there other → Same here there name other
-same_told told x y here there name other same h k = same_parts here there name other (sym h ∙ ap told same ∙ k)
+same_named : {X : Type 0} (named : X → ModelFault) (x y : X) (here there : Place) (name other : FaultName) → x ≡ y → named x ≡ Refused here name → named y ≡ Refused there other → Same here there name other
+same_named named x y here there name other same h k = same_parts here there name other (sym h ∙ ap named same ∙ k)
 
 -- ---- files
 
@@ -58,13 +58,13 @@ same_refusal input tokens tree other cause because here there t u h k =
 
 module _ (input : List ℕ) (here there : Place) (name other : FaultName) where
   two_of_tokens : IsTokensFault input here name → IsTokensFault input there other → Same here there name other
-  two_of_tokens h k = same_told told_of_tokens h.fault k.fault here there name other (one_fault input h.fault k.fault h.is_fault k.is_fault) h.told k.told
+  two_of_tokens h k = same_named fault_from_tokens h.fault k.fault here there name other (one_fault input h.fault k.fault h.is_fault k.is_fault) h.named k.named
 
   two_of_grammar : IsGrammarFault input here name → IsGrammarFault input there other → Same here there name other
   two_of_grammar h k =
       let tokens = one_list input k.tokens h.tokens k.are_tokens h.are_tokens in
       let k_fault = subst (λ (l : List Token). IsFileFault input l k.fault) tokens k.is_fault in
-      same_told told_of_file h.fault k.fault here there name other (files.one_fault input h.tokens h.fault k.fault h.is_fault k_fault) h.told k.told
+      same_named fault_from_file h.fault k.fault here there name other (files.one_fault input h.tokens h.fault k.fault h.is_fault k_fault) h.named k.named
 
   two_of_check : IsCheckFault input here name → IsCheckFault input there other → Same here there name other
   two_of_check h k =
@@ -92,7 +92,7 @@ one_model_fault input here there name other (inr (inr h)) (inl k) = absurd (no_f
 one_model_fault input here there name other (inr (inr h)) (inr (inl k)) = absurd (no_file_of input there here other name k h)
 one_model_fault input here there name other (inr (inr h)) (inr (inr k)) = two_of_check input here there name other h k
 
-pub model_or_fault : (input : List ℕ) (m : PepaModel) (place : Place) (name : FaultName) → Reads input m → ¬ IsModelFault input place name
+pub model_or_fault : (input : List ℕ) (m : PepaModel) (place : Place) (name : FaultName) → IsShortTextOf input m → ¬ IsModelFault input place name
 model_or_fault input m place name r (inl h) = no_fault input r.text.tokens h.fault r.text.are_tokens h.is_fault
 model_or_fault input m place name r (inr (inl h)) =
     let tokens = one_list input h.tokens r.text.tokens h.are_tokens r.text.are_tokens in

@@ -1,5 +1,5 @@
 -- What `steps` answers can be printed: its numbers are the model's, and it has no signals.
-use Rattle.std.proofs.Common.{◌≡◌, ◌==◌, ℕ, ◌<◌, Bool, true, false, cond, not, if◌then◌else◌, bit_or, List, [], ◌∷◌, ◌++◌, map, filter, flat_map, length, codes, refl, sym, ap, ◌∙◌, subst}
+use Rattle.std.proofs.Common.{◌≡◌, ◌==◌, ℕ, ◌<◌, Bool, true, false, not, if◌then◌else◌, bit_or, List, [], ◌∷◌, ◌++◌, map, filter, flat_map, length, codes, refl, sym, ap, ◌∙◌, subst}
 use Rattle.std.specs.List.{AllByRecursion, AllZip}
 use Rattle.std.proofs.lemmas.Option.{slice_get_within}
 use Rattle.std.proofs.lemmas.List.Elements.{All-from_recursion}
@@ -12,34 +12,22 @@ use Rattle.pepa_model.specs.declared.term.Activity.{Activity}
 use Rattle.pepa_model.specs.declared.term.Step.{Step}
 use Rattle.pepa_model.proofs.OneList.{one_opening}
 use Rattle.pepa_steps.specs.States.{State, AtLeaf, Cooperating, Hiding, has, StateTransition, NodeStandsFor, StepStandsFor}
-use Rattle.pepa_steps.specs.Moves.{joint}
+use Rattle.pepa_steps.specs.Moves.{joint_moves}
 use Rattle.pepa_steps.specs.OpenStates.{OpenState, LeafOpen, CoopOpen, HideOpen, OpensState, parts_in, moves_in, leaf_move, left_move, right_move, joint_move, hidden_move, closed_state, apparent_in, rate_of}
-use Rattle.pepa_steps.specs.StateVerdict.{IsFinePart, HasFineRates}
+use Rattle.pepa_steps.specs.StateVerdict.{IsFinePart, HasFineStateRates}
+use Rattle.pepa_steps.proofs.Faults.{all_append}
+use Rattle.pepa_steps.proofs.NodeLists.{all_same, all_filter, all_map}
 use Rattle.pepa_steps.proofs.OneState.{one_list}
 use Rattle.pepa_steps.proofs.StateLists.{transition_list}
 use Rattle.pepa_steps.proofs.WithoutTau.{state_without_tau}
 use Rattle.pepa_steps.proofs.StateOpens.{node_of_model}
-use Rattle.sim_command.specs.Judgements.{AreStepsOf}
-use Rattle.sim_command.specs.StepsText.{CanPrint, CanPrintStep}
+use Rattle.sim_command.specs.FirstSteps.{AreStepsOf}
+use Rattle.sim_report.specs.StepsText.{CanPrint, CanPrintStep}
 
 -- ---- lists
 
-module _ {X : Type 0} (P : X → Type 0) where
-  all_append : (xs ys : List X) → AllByRecursion P xs → AllByRecursion P ys → AllByRecursion P (xs ++ ys)
-  all_append [] ys h k = k
-  all_append (x ∷ xs) ys h k = (h.0, all_append xs ys h.1 k)
-
-  all_filter : (test : X → Bool) (xs : List X) → AllByRecursion P xs → AllByRecursion P (filter test xs)
-  all_filter test [] h = tt
-  all_filter test (x ∷ xs) h = by (test x) (all_filter test xs h.1)
-    where
-      by : (b : Bool) → AllByRecursion P (filter test xs) → AllByRecursion P (cond b (x ∷ filter test xs) (filter test xs))
-      by true rest = (h.0, rest)
-      by false rest = rest
-
-all_map : {X Y : Type 0} (P : X → Type 0) (Q : Y → Type 0) (f : X → Y) → ((x : X) → P x → Q (f x)) → (xs : List X) → AllByRecursion P xs → AllByRecursion Q (map f xs)
-all_map P Q f each [] h = tt
-all_map P Q f each (x ∷ xs) h = (each x h.0, all_map P Q f each xs h.1)
+all_mapped : {X Y : Type 0} (P : X → Type 0) (Q : Y → Type 0) (f : X → Y) → ((x : X) → P x → Q (f x)) → (xs : List X) → AllByRecursion P xs → AllByRecursion Q (map f xs)
+all_mapped P Q f each xs h = all_map Q f xs (all_same P (λ x. Q (f x)) each xs h)
 
 all_flat : {X Y : Type 0} (P : X → Type 0) (Q : Y → Type 0) (f : X → List Y) → ((x : X) → P x → AllByRecursion Q (f x)) → (xs : List X) → AllByRecursion P xs → AllByRecursion Q (flat_map f xs)
 all_flat P Q f each [] h = tt
@@ -62,10 +50,10 @@ module _ (m : PepaModel) (sound : IsModel m) where
   tau_known : 0 < length m.actions
   tau_known = slice_get_within m.actions 0 (codes "tau") sound.tau
 
-  joint_known : (set : List ℕ) (ra rb : ℕ → Rate) (us vs : List StateTransition) → AllByRecursion IsKnown us → AllByRecursion IsKnown vs → AllByRecursion IsKnown (joint (λ p q. Cooperating p q set) set ra rb us vs)
+  joint_known : (set : List ℕ) (ra rb : ℕ → Rate) (us vs : List StateTransition) → AllByRecursion IsKnown us → AllByRecursion IsKnown vs → AllByRecursion IsKnown (joint_moves (λ p q. Cooperating p q set) set ra rb us vs)
   joint_known set ra rb us vs h k =
       all_flat IsKnown IsKnown (λ u. map (joint_move set (ra u.action) (rb u.action) u) (filter (λ v. u.action == v.action) vs))
-      (λ u known. all_map IsKnown IsKnown (joint_move set (ra u.action) (rb u.action) u) (λ v other. (known.0, united u.signals v.signals known.1 other.1)) (filter (λ v. u.action == v.action) vs) (all_filter IsKnown (λ v. u.action == v.action) vs k))
+      (λ u known. all_mapped IsKnown IsKnown (joint_move set (ra u.action) (rb u.action) u) (λ v other. (known.0, united u.signals v.signals known.1 other.1)) (filter (λ v. u.action == v.action) vs) (all_filter IsKnown (λ v. u.action == v.action) vs k))
       (filter (λ u. has set u.action) us) (all_filter IsKnown (λ u. has set u.action) us h)
     where
       united : (x y : ℕ) → x ≡ 0 → y ≡ 0 → bit_or x y ≡ 0
@@ -85,16 +73,16 @@ module _ (m : PepaModel) (sound : IsModel m) where
       let right = moves_known q y t of_y opens.1 in
       all_append IsKnown
       (map (left_move (closed_state t) other) (filter (λ u. not (has other u.action)) (moves_in s)) ++ map (right_move (closed_state s) other) (filter (λ v. not (has other v.action)) (moves_in t)))
-      (joint (λ p q. Cooperating p q other) other (λ a. rate_of (apparent_in s a)) (λ a. rate_of (apparent_in t a)) (moves_in s) (moves_in t))
+      (joint_moves (λ p q. Cooperating p q other) other (λ a. rate_of (apparent_in s a)) (λ a. rate_of (apparent_in t a)) (moves_in s) (moves_in t))
       (all_append IsKnown
       (map (left_move (closed_state t) other) (filter (λ u. not (has other u.action)) (moves_in s))) (map (right_move (closed_state s) other) (filter (λ v. not (has other v.action)) (moves_in t)))
-      (all_map IsKnown IsKnown (left_move (closed_state t) other) (λ u known. known) (filter (λ u. not (has other u.action)) (moves_in s)) (all_filter IsKnown (λ u. not (has other u.action)) (moves_in s) left))
-      (all_map IsKnown IsKnown (right_move (closed_state s) other) (λ v known. known) (filter (λ v. not (has other v.action)) (moves_in t)) (all_filter IsKnown (λ v. not (has other v.action)) (moves_in t) right)))
+      (all_mapped IsKnown IsKnown (left_move (closed_state t) other) (λ u known. known) (filter (λ u. not (has other u.action)) (moves_in s)) (all_filter IsKnown (λ u. not (has other u.action)) (moves_in s) left))
+      (all_mapped IsKnown IsKnown (right_move (closed_state s) other) (λ v known. known) (filter (λ v. not (has other v.action)) (moves_in t)) (all_filter IsKnown (λ v. not (has other v.action)) (moves_in t) right)))
       (joint_known other (λ a. rate_of (apparent_in s a)) (λ a. rate_of (apparent_in t a)) (moves_in s) (moves_in t) left right)
   moves_known (Hiding p set) (HideNode x number) (LeafOpen o) stands opens = absurd opens
   moves_known (Hiding p set) (HideNode x number) (CoopOpen s t other) stands opens = absurd opens
   moves_known (Hiding p set) (HideNode x number) (HideOpen s other) (of_x, at) opens =
-      all_map IsKnown IsKnown (hidden_move other) (λ u known. (by (has other u.action) u.action known.0, known.1)) (moves_in s) (moves_known p x s of_x opens.0)
+      all_mapped IsKnown IsKnown (hidden_move other) (λ u known. (by (has other u.action) u.action known.0, known.1)) (moves_in s) (moves_known p x s of_x opens.0)
     where
       by : (b : Bool) (a : ℕ) → a < length m.actions → (if b then 0 else a) < length m.actions
       by true a known = tau_known
@@ -114,6 +102,6 @@ module _ (m : PepaModel) (sound : IsModel m) where
       All-from_recursion (CanPrintStep m) steps
       (each_can_print steps (moves_in tree) (subst (λ (ts : List StateTransition). AllZip (StepStandsFor m) steps ts) same stand) (moves_known state node tree stands opens))
     where
-      rates_of : (parts : List OpenState) → AllByRecursion IsFinePart parts → AllByRecursion HasFineRates parts
+      rates_of : (parts : List OpenState) → AllByRecursion IsFinePart parts → AllByRecursion HasFineStateRates parts
       rates_of [] h = tt
       rates_of (p ∷ parts) h = (h.0.rates, rates_of parts h.1)

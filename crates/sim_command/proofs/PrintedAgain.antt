@@ -1,7 +1,7 @@
 -- A printed text is answered as the text that it was printed from.
 use Rattle.std.proofs.Common.{◌≡◌, ℕ, List, inl, inr, sym, ◌∙◌, subst}
 use Rattle.pepa_model.specs.PepaModel.{PepaModel}
-use Rattle.pepa_checks.specs.CheckedFiles.{IsTextOf, Reads}
+use Rattle.pepa_checks.specs.CheckedFiles.{IsTextOf, IsShortTextOf}
 use Rattle.pepa_checks.proofs.OneModel.{one_model}
 use Rattle.sim_command.specs.declared.answered.Answered.{Answered}
 use Rattle.sim_command.specs.declared.words.Command.{Command}
@@ -13,7 +13,7 @@ use Rattle.sim_command.proofs.OneOutcome.{model_or_fault}
 use Rattle.sim_command.proofs.OneAnswer.{one_model_answer}
 
 -- a short text of a model is read as this model
-read_back : (text : List ℕ) (m : PepaModel) → IsTextOf text m → IsShort text → Reads text m
+read_back : (text : List ℕ) (m : PepaModel) → IsTextOf text m → IsShort text → IsShortTextOf text m
 read_back text m is short = record {
   text = is;
   short = short.bytes;
@@ -22,7 +22,7 @@ read_back text m is short = record {
 }
 
 -- an input that is read as a model is answered for this model
-for_model : (command : Command) (input : List ℕ) (m : PepaModel) (x : Answered) → Reads input m → IsAnswer command input x → IsModelAnswer command m x
+for_model : (command : Command) (input : List ℕ) (m : PepaModel) (x : Answered) → IsShortTextOf input m → IsAnswer command input x → IsModelAnswer command m x
 for_model command input m x reads (inl h) = absurd (model_or_fault input m h.place h.name reads h.is_fault)
 for_model command input m x reads (inr h) = subst (λ (n : PepaModel). IsModelAnswer command n x) (one_model input h.model m h.reads reads) h.answer
 
@@ -32,5 +32,5 @@ three_is_not_zero status three zero = let e = sym three ∙ zero in cc
 pub printed_again : (command : Command) (input : List ℕ) (printed x y : Answered) → IsAnswer Print input printed → printed.status ≡ 0 → IsShort printed.out → IsAnswer command input x → IsAnswer command printed.out y → y ≡ x
 printed_again command input printed x y (inl h) fine short a b = absurd (three_is_not_zero printed.status h.refused.status_is fine)
 printed_again command input printed x y (inr h) fine short a b =
-    let again : Reads printed.out h.model = read_back printed.out h.model h.answer.reads_back short in
+    let again : IsShortTextOf printed.out h.model = read_back printed.out h.model h.answer.reads_back short in
     one_model_answer command h.model y x (for_model command printed.out h.model y again b) (for_model command input h.model x h.reads a)

@@ -1,15 +1,10 @@
-pub mod FaultLine
 pub mod Words
-pub mod StepsText
-pub mod TransitionsText
 pub mod ModelFaults
-pub mod Systems
-pub mod CheckText
 pub mod ModelAnswers
 pub mod Answer
 pub mod TopCall
 pub mod DeviceCalls
 pub mod SoundEndings
 pub mod ShortTexts
-pub mod FirstStates
-pub mod Judgements
+pub mod FirstSteps
+pub mod AnswerLaws

@@ -4,42 +4,27 @@ use Rattle.pepa_model.specs.PepaModel.{PepaModel}
 use Rattle.pepa_steps.specs.States.{State, StateTransition}
 use Rattle.pepa_steps.specs.Rules.{IsTransitionList}
 use Rattle.pepa_steps.specs.StateVerdict.{IsWithoutFault}
-use Rattle.pepa_steps.specs.WholeVerdict.{HasPassive, AreWeighed, rates_of, StateStop, OfPart, OfPassive, OfWeights, IsWholeVerdict}
-use Rattle.pepa_steps.specs.StepsAnswers.{fault_name}
-use Rattle.pepa_steps.specs.declared.transitions.StepFault.{StepFault}
-use Rattle.pepa_steps.specs.declared.transitions.StepFault.TheVariants as named
-use Rattle.sim_command.specs.declared.fault.Fault.{Fault}
-use Rattle.sim_command.specs.declared.fault.Fault.TheVariants as faults
-use Rattle.sim_command.specs.declared.fault.Stop.{Stop}
-use Rattle.sim_command.specs.declared.fault.Stop.TheVariants as stops
+use Rattle.pepa_steps.specs.WholeVerdict.{HasPassive, AreWeighed, rates_of, StateStop, IsWholeVerdict}
+use Rattle.sim_report.specs.declared.fault.Fault.{Fault}
+use Rattle.sim_report.specs.declared.fault.Fault.TheVariants as faults
 use Rattle.sim_command.specs.declared.answered.Answered.{Answered}
 use Rattle.sim_command.specs.declared.words.Command.{Command}
 use Rattle.sim_command.specs.declared.words.Command.TheVariants.{Steps, Check, Print}
-use Rattle.sim_command.specs.FaultLine.{fault_text}
-use Rattle.sim_command.specs.TransitionsText.{transitions_text}
-use Rattle.sim_command.specs.FirstStates.{IsFirstState}
+use Rattle.sim_report.specs.FaultLine.{fault_text}
+use Rattle.sim_report.specs.TransitionsText.{transitions_text}
+use Rattle.probe_attach.specs.FirstStates.{IsFirstState}
 use Rattle.pepa_printer.specs.ModelText.{model_text}
 use Rattle.pepa_checks.specs.CheckedFiles.{IsTextOf}
-use Rattle.sim_command.specs.CheckText.{IsCheckText}
+use Rattle.sim_report.specs.CheckText.{IsCheckText}
+use Rattle.sim_space.specs.Stops.{stop_of_verdict}
 
 -- a status other than 0, with nothing for the output and the fault's line
-pub record IsRefusal (answered : Answered) (status : ℕ) (fault : Fault) : Type 0 where
+pub record IsRefusalAnswer (answered : Answered) (status : ℕ) (fault : Fault) : Type 0 where
   pub status_is : answered.status ≡ status
   pub out_is : answered.out ≡ []
   pub line_is : answered.line ≡ fault_text fault
 
 -- ---- steps
-
-abbrev pub stop_of : StepFault → Stop
-stop_of named.Mixed = stops.Mixed
-stop_of named.Overflow = stops.Overflow
-stop_of named.ListTooLong = stops.ListTooLong
-
--- the stop by which a state's verdict is told
-abbrev pub told_stop : StateStop → Stop
-told_stop (OfPart fault) = stop_of (fault_name fault)
-told_stop OfPassive = stops.PassiveLeft
-told_stop OfWeights = stops.WeightOverflow
 
 -- status 6: the verdict on the first state names a stop
 pub record IsStopped (m : PepaModel) (answered : Answered) : Type 0 where
@@ -47,7 +32,7 @@ pub record IsStopped (m : PepaModel) (answered : Answered) : Type 0 where
   pub first : IsFirstState m state
   pub stop : StateStop
   pub verdict : IsWholeVerdict m.bodies state stop
-  pub refused : IsRefusal answered 6 (faults.StepsStopped (told_stop stop))
+  pub refused : IsRefusalAnswer answered 6 (faults.StepsStopped (stop_of_verdict stop))
 
 -- status 0: the verdict on the first state names none, and its transition list is written, a line for each derivation
 pub record IsListed (m : PepaModel) (answered : Answered) : Type 0 where

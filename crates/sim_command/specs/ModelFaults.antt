@@ -5,42 +5,42 @@ use Rattle.pepa_lexer.specs.declared.kinds.Token.{Token}
 use Rattle.pepa_lexer.specs.declared.kinds.LexFault.{LexFault}
 use Rattle.pepa_lexer.specs.declared.kinds.LexFault.TheVariants as lexer
 use Rattle.pepa_lexer.specs.TokenLists.{IsTokens}
-use Rattle.pepa_lexer.specs.Faults.{IsFaultOf}
+use Rattle.pepa_lexer.specs.Faults.{IsLexFaultOf}
 use Rattle.pepa_reader.specs.declared.trees.FileTree.{FileTree}
 use Rattle.pepa_reader.specs.declared.fault.FileFault.{FileFault}
 use Rattle.pepa_reader.specs.declared.fault.FileFault.TheVariants as reader
-use Rattle.pepa_reader.specs.Terminals.{terminals}
+use Rattle.token_grammar.specs.Terminals.{terminals}
 use Rattle.pepa_reader.specs.Trees.{file_node_of}
 use Rattle.pepa_reader.specs.FileAnswers.{IsFileTree, IsFileFault}
-use Rattle.pepa_resolver.specs.declared.cause.CheckCause.{CheckCause}
-use Rattle.pepa_resolver.specs.declared.cause.CheckCause.TheVariants as causes
-use Rattle.pepa_resolver.specs.declared.cause.CheckEnd.{CheckEnd}
-use Rattle.pepa_resolver.specs.declared.cause.CheckEnd.TheVariants as ends
+use Rattle.pepa_checks.specs.declared.cause.CheckCause.{CheckCause}
+use Rattle.pepa_checks.specs.declared.cause.CheckCause.TheVariants as causes
+use Rattle.pepa_checks.specs.declared.cause.CheckEnd.{CheckEnd}
+use Rattle.pepa_checks.specs.declared.cause.CheckEnd.TheVariants as ends
 use Rattle.pepa_model.specs.PepaModel.{PepaModel}
-use Rattle.pepa_checks.specs.CheckedFiles.{Reads, IsRefused}
-use Rattle.sim_command.specs.declared.fault.FaultName.{FaultName}
-use Rattle.sim_command.specs.declared.fault.FaultName.TheVariants as names
+use Rattle.pepa_checks.specs.CheckedFiles.{IsShortTextOf, IsRefused}
+use Rattle.sim_report.specs.declared.fault.FaultName.{FaultName}
+use Rattle.sim_report.specs.declared.fault.FaultName.TheVariants as names
 use Rattle.sim_command.specs.declared.model_reading.ModelFault.{ModelFault}
 use Rattle.sim_command.specs.declared.model_reading.ModelFault.TheVariants.{Refused, Memory}
 
 -- ---- places and names
 
--- what is told of a fault of the tokens
-abbrev pub told_of_tokens : LexFault → ModelFault
-told_of_tokens (lexer.BadByte place) = Refused place names.BadByte
-told_of_tokens (lexer.BadNumber place) = Refused place names.BadNumber
-told_of_tokens (lexer.LongName place) = Refused place names.LongName
-told_of_tokens (lexer.OpenComment place) = Refused place names.OpenComment
-told_of_tokens lexer.Memory = Memory
+-- the fault of an input whose tokens have this one
+abbrev pub fault_from_tokens : LexFault → ModelFault
+fault_from_tokens (lexer.BadByte place) = Refused place names.BadByte
+fault_from_tokens (lexer.BadNumber place) = Refused place names.BadNumber
+fault_from_tokens (lexer.LongName place) = Refused place names.LongName
+fault_from_tokens (lexer.OpenComment place) = Refused place names.OpenComment
+fault_from_tokens lexer.Memory = Memory
 
--- what is told of a fault of the file that the tokens would be
-abbrev pub told_of_file : FileFault → ModelFault
-told_of_file (reader.Expected place) = Refused place names.Expected
-told_of_file (reader.TooDeep place) = Refused place names.TooDeep
-told_of_file (reader.Array place) = Refused place names.Array
-told_of_file (reader.Wildcard place) = Refused place names.Wildcard
-told_of_file (reader.Unsupported place) = Refused place names.Unsupported
-told_of_file reader.Memory = Memory
+-- the fault of an input whose tokens are no file, for this one
+abbrev pub fault_from_file : FileFault → ModelFault
+fault_from_file (reader.Expected place) = Refused place names.Expected
+fault_from_file (reader.TooDeep place) = Refused place names.TooDeep
+fault_from_file (reader.Array place) = Refused place names.Array
+fault_from_file (reader.Wildcard place) = Refused place names.Wildcard
+fault_from_file (reader.Unsupported place) = Refused place names.Unsupported
+fault_from_file reader.Memory = Memory
 
 -- the name of each cause for which the check refuses a file
 abbrev pub cause_name : CheckCause → FaultName
@@ -54,18 +54,18 @@ cause_name causes.Unguarded = names.Unguarded
 cause_name causes.TooMany = names.TooMany
 cause_name causes.MixedChoice = names.MixedChoice
 
--- what is told of the end of a check
-abbrev pub told_of_check : CheckEnd → ModelFault
-told_of_check (ends.Refused cause place) = Refused place (cause_name cause)
-told_of_check ends.Memory = Memory
+-- the fault of an input whose file the check refuses
+abbrev pub fault_from_check : CheckEnd → ModelFault
+fault_from_check (ends.Refused cause place) = Refused place (cause_name cause)
+fault_from_check ends.Memory = Memory
 
 -- ---- faults
 
 -- the input has no tokens, for the fault of this name at this place
 pub record IsTokensFault (input : List ℕ) (place : Place) (name : FaultName) : Type 0 where
   pub fault : LexFault
-  pub is_fault : IsFaultOf input fault
-  pub told : told_of_tokens fault ≡ Refused place name
+  pub is_fault : IsLexFaultOf input fault
+  pub named : fault_from_tokens fault ≡ Refused place name
 
 -- it has tokens, and they are no file, for the fault of this name at this place
 pub record IsGrammarFault (input : List ℕ) (place : Place) (name : FaultName) : Type 0 where
@@ -73,7 +73,7 @@ pub record IsGrammarFault (input : List ℕ) (place : Place) (name : FaultName) 
   pub are_tokens : IsTokens input tokens
   pub fault : FileFault
   pub is_fault : IsFileFault input tokens fault
-  pub told : told_of_file fault ≡ Refused place name
+  pub named : fault_from_file fault ≡ Refused place name
 
 -- its tokens are a file, which the check refuses at this place, for the cause of this name
 pub record IsCheckFault (input : List ℕ) (place : Place) (name : FaultName) : Type 0 where
@@ -91,6 +91,6 @@ IsModelFault input place name = IsTokensFault input place name ⊎ (IsGrammarFau
 
 -- what may be answered: the model, the first fault, or that memory ran out
 abbrev pub ReadsModel : List ℕ → Result PepaModel ModelFault → Type 0
-ReadsModel input (Ok m) = Reads input m
+ReadsModel input (Ok m) = IsShortTextOf input m
 ReadsModel input (Err (Refused place name)) = IsModelFault input place name
 ReadsModel input (Err Memory) = Unit {0}

@@ -3,7 +3,7 @@ use Rattle.std.specs.Prelude.{◌≡◌, ℕ, ◌^◌, ◌≤◌, List, length}
 use Rattle.pepa_lexer.specs.TokenLists.{IsTokens}
 use Rattle.pepa_lexer.specs.declared.kinds.Token.{Token}
 use Rattle.pepa_reader.specs.Grammar.{File, System, item_spelled, file_spelled}
-use Rattle.pepa_reader.specs.Terminals.{terminals}
+use Rattle.token_grammar.specs.Terminals.{terminals}
 use Rattle.pepa_reader.specs.FileAnswers.{AreShort, most_tokens}
 
 -- at most 2^20 bytes, and at most 2,048 tokens in each item of the file that they are, if they are one

@@ -1,11 +1,11 @@
 -- How a call ends over devices that tell their bytes and don't fail.
 use Rattle.std.specs.Prelude.{◌≡◌, ℕ, ◌<◌, ◌≤◌, ◌^◌, Some, List, ◌++◌, length, ◌⊎◌}
 use Rattle.sim_outside.specs.Faults.{Rose}
-use Rattle.sim_command.specs.declared.fault.Fault.TheVariants as faults
+use Rattle.sim_report.specs.declared.fault.Fault.TheVariants as faults
 use Rattle.sim_command.specs.declared.answered.Answered.{Answered}
 use Rattle.sim_command.specs.declared.words.Command.{Command}
 use Rattle.sim_command.specs.Words.{IsCommand}
-use Rattle.sim_command.specs.FaultLine.{fault_text}
+use Rattle.sim_report.specs.FaultLine.{fault_text}
 use Rattle.sim_command.specs.Answer.{IsAnswer}
 use Rattle.sim_command.specs.TopCall.{Seen}
 

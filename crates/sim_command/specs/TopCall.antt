@@ -1,14 +1,14 @@
 -- How a call of the program ends.
 use Rattle.std.specs.Prelude.{◌≡◌, ℕ, ◌<◌, ◌≤◌, ◌^◌, Option, None, Some, List, [], length, take, ◌⊎◌, Err}
 use Rattle.sim_outside.specs.Faults.{Rose}
-use Rattle.sim_outside.specs.Sink.{Grows}
+use Rattle.sim_outside.specs.Sink.{GrowsBy}
 use Rattle.sim_outside.specs.ReadAll.{ReadsToEnd}
 use Rattle.sim_outside.specs.declared.reading.ReadEnd.TheVariants.{ReadFault, TooLong}
-use Rattle.sim_command.specs.declared.fault.Fault.TheVariants as faults
+use Rattle.sim_report.specs.declared.fault.Fault.TheVariants as faults
 use Rattle.sim_command.specs.declared.answered.Answered.{Answered}
 use Rattle.sim_command.specs.declared.words.Command.{Command}
 use Rattle.sim_command.specs.Words.{IsCommand}
-use Rattle.sim_command.specs.FaultLine.{fault_text}
+use Rattle.sim_report.specs.FaultLine.{fault_text}
 use Rattle.sim_command.specs.Answer.{IsAnswer}
 
 -- a device before a call and after it: the bytes left to read, or written so far, where it tells them, and how many of its calls
@@ -35,7 +35,7 @@ pub record IsAsBefore (device : Seen) : Type 0 where
 
 -- the bytes written grew by these
 abbrev pub Wrote : Seen → List ℕ → Type 0
-Wrote device piece = Grows device.bytes_before device.bytes_after piece
+Wrote device piece = GrowsBy device.bytes_before device.bytes_after piece
 
 -- the bytes written grew by these, and no write failed
 pub record WroteAll (device : Seen) (piece : List ℕ) : Type 0 where
@@ -120,12 +120,12 @@ pub record EndsInAnswer (words : List (List ℕ)) (source out : Seen) (line : Li
 pub record EndsInWriteFault (words : List (List ℕ)) (source out : Seen) (line : List ℕ) (status : ℕ) : Type 0 where
   pub answer : Answered
   pub answered : IsAnswered words source answer
-  pub listed : answer.status ≡ 0
+  pub is_fine : answer.status ≡ 0
   pub status_is : status ≡ 5
   pub wrote : WroteFront out answer.out
   pub line_is : line ≡ fault_text faults.WriteFault
 
--- how a call ends: with its status, and the line that tells a fault
+-- how a call ends: with its status, and the line of a fault
 abbrev pub IsEnding : List (List ℕ) → Seen → Seen → List ℕ → ℕ → Type 0
 IsEnding words source out line status =
     EndsInUsage words source out line status
@@ -135,8 +135,8 @@ IsEnding words source out line status =
     ⊎ (EndsInAnswer words source out line status ⊎ EndsInWriteFault words source out line status))))
 
 -- the line is written, or a front of it where a write failed
-abbrev pub IsTold : Seen → List ℕ → Type 0
-IsTold device line = WroteAll device line ⊎ WroteFront device line
+abbrev pub IsLineWritten : Seen → List ℕ → Type 0
+IsLineWritten device line = WroteAll device line ⊎ WroteFront device line
 
 abbrev pub seen : Option (List ℕ) → Option (List ℕ) → ℕ → ℕ → Seen
 seen bytes_before bytes_after faults_before faults_after =

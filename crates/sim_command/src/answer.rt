@@ -4,14 +4,12 @@ ghost use Rattle.sim_command.specs.ModelAnswers.{IsModelAnswer};
 ghost use Rattle.sim_command.specs.Answer.{IsAnswer};
 
 use crate::answered::{Answered, refusal};
-use crate::counts::check_text;
-use crate::fault::Fault;
-use crate::line::Line;
 use crate::model_reading::{ModelFault, read_model};
 use crate::model_steps::steps_answer;
 use crate::words::Command;
 use pepa_model::Model;
 use pepa_printer::print_model;
+use sim_report::{Fault, Line, check_text};
 use std::alloc::{AllocError, Global};
 
 /// The answer of `steps` to an input of at most 2^20 bytes: the transitions of its model's system.

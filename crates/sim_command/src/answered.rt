@@ -1,13 +1,11 @@
-//! Answers.
-ghost use Rattle.sim_command.specs.ModelAnswers.{IsRefusal};
+//! What a command answers.
+ghost use Rattle.sim_command.specs.ModelAnswers.{IsRefusalAnswer};
 
-use crate::fault::Fault;
-use crate::fault_lines::fault_line;
-use crate::line::Line;
 use sim_outside::Bytes;
+use sim_report::{Fault, Line, fault_line};
 use std::alloc::Global;
 
-/// An answer: its status, the bytes for the output, and the line that tells a fault, which is empty at status 0.
+/// An answer: its status, the bytes for the output, and the line of a fault, which is empty at status 0.
 #[derive(Debug, Drop)]
 pub struct Answered {
     pub status: u8,
@@ -17,7 +15,7 @@ pub struct Answered {
 
 /// An answer that writes nothing but a fault's line.
 pub(crate) fn refusal(alloc: Global, status: u8, fault: &Fault) -> Answered
-    ensures { IsRefusal result status fault.now }
+    ensures { IsRefusalAnswer result status fault.now }
 {
     Answered {
         status,

@@ -2,11 +2,11 @@
 ghost use Rattle.std.specs.Prelude.{◌≡◌, ◌≤◌, ◌^◌, length};
 ghost use Rattle.sim_command.specs.ModelFaults.{ReadsModel, cause_name};
 
-use crate::fault::{FaultName, Place};
 use pepa_checks::{CheckCause, CheckEnd, check};
-use pepa_lexer::{LexFault, tokens};
+use pepa_lexer::{LexFault, Place, tokens};
 use pepa_model::Model;
 use pepa_reader::{FileFault, read_file};
+use sim_report::FaultName;
 use std::alloc::Global;
 
 /// Why a text gave no model.
@@ -19,9 +19,9 @@ pub enum ModelFault {
 }
 
 impl From<LexFault> for ModelFault {
-    ghost use Rattle.sim_command.specs.ModelFaults.{told_of_tokens};
+    ghost use Rattle.sim_command.specs.ModelFaults.{fault_from_tokens};
 
-    ghost from_gives = { λ fault told. told ≡ told_of_tokens fault };
+    ghost from_gives = { λ fault named. named ≡ fault_from_tokens fault };
 
     fn from(fault: LexFault) -> ModelFault {
         match fault {
@@ -35,9 +35,9 @@ impl From<LexFault> for ModelFault {
 }
 
 impl From<FileFault> for ModelFault {
-    ghost use Rattle.sim_command.specs.ModelFaults.{told_of_file};
+    ghost use Rattle.sim_command.specs.ModelFaults.{fault_from_file};
 
-    ghost from_gives = { λ fault told. told ≡ told_of_file fault };
+    ghost from_gives = { λ fault named. named ≡ fault_from_file fault };
 
     fn from(fault: FileFault) -> ModelFault {
         match fault {
@@ -52,9 +52,9 @@ impl From<FileFault> for ModelFault {
 }
 
 impl From<CheckEnd> for ModelFault {
-    ghost use Rattle.sim_command.specs.ModelFaults.{told_of_check};
+    ghost use Rattle.sim_command.specs.ModelFaults.{fault_from_check};
 
-    ghost from_gives = { λ end told. told ≡ told_of_check end };
+    ghost from_gives = { λ end named. named ≡ fault_from_check end };
 
     fn from(end: CheckEnd) -> ModelFault {
         match end {
@@ -84,7 +84,7 @@ fn refused(place: Place, name: FaultName) -> ModelFault
     ModelFault::Refused { place, name }
 }
 
-/// The name by which a cause is told.
+/// The name of a cause.
 fn name_of(cause: CheckCause) -> FaultName
     ensures { result ≡ cause_name cause }
 {

@@ -1,16 +1,15 @@
 //! The answer of `steps` for a model.
 ghost use Rattle.std.specs.Prelude.{◌≡◌, IfOk};
-ghost use Rattle.sim_command.specs.Judgements.{IsJudged, step_rates, AreFirstSteps};
-ghost use Rattle.sim_command.specs.ModelAnswers.{IsStepsAnswer, stop_of};
+ghost use Rattle.sim_command.specs.FirstSteps.{step_rates, AreFirstSteps};
+ghost use Rattle.sim_command.specs.ModelAnswers.{IsStepsAnswer};
 
 use crate::answered::{Answered, refusal};
-use crate::fault::{Fault, Stop};
-use crate::first_state::first_term;
-use crate::line::Line;
-use crate::transition_text::steps_text;
 use pepa_model::{Model, Step};
-use pepa_rates::{Rate, WeightFault, weights};
-use pepa_steps::{StepFault, StepsEnd, steps};
+use pepa_rates::Rate;
+use pepa_steps::{StepsEnd, steps};
+use probe_attach::attach;
+use sim_report::{Fault, Line, steps_text};
+use sim_space::{ChoiceEnd, Stop, choice_weights};
 use sqlite_items::Items;
 use std::alloc::{AllocError, Global};
 
@@ -18,12 +17,12 @@ use std::alloc::{AllocError, Global};
 pub(crate) fn steps_answer(alloc: Global, model: &Model) -> Result<Answered, AllocError>
     ensures { IfOk result (IsStepsAnswer model.now) }
 {
-    model.is_sound();
-    let term = first_term(alloc, model)?;
+    model.recall_invariant();
+    let term = attach(alloc, model)?;
     match steps(alloc, model, &term) {
         Ok(list) => list_answer(alloc, model, list.as_slice()),
         Err(StepsEnd::Fault(fault)) => {
-            let stop = stop_named(fault);
+            let stop = Stop::from(fault);
             Ok(refusal(alloc, 6, &Fault::StepsStopped { stop }))
         }
         Err(StepsEnd::Memory) => Err(AllocError),
@@ -35,42 +34,26 @@ fn list_answer(alloc: Global, model: &Model, list: &[Step]) -> Result<Answered, 
     requires { AreFirstSteps model.now list.now }
     ensures { IfOk result (IsStepsAnswer model.now) }
 {
-    model.is_sound();
-    match stop_of_steps(alloc, list)? {
-        Some(stop) => Ok(refusal(alloc, 6, &Fault::StepsStopped { stop })),
-        None => Ok(Answered {
+    model.recall_invariant();
+    let rates = rates_of(alloc, list)?;
+    match choice_weights(alloc, rates.as_slice()) {
+        Ok(_) => Ok(Answered {
             status: 0,
             out: steps_text(alloc, model, list)?,
             line: Line::empty(),
         }),
+        Err(ChoiceEnd::Stop(stop)) => Ok(refusal(alloc, 6, &Fault::StepsStopped { stop })),
+        Err(ChoiceEnd::Memory) => Err(AllocError),
     }
 }
 
-/// The stop that steps have together, if they have one: a passive one, or weights out of range.
-fn stop_of_steps(alloc: Global, steps: &[Step]) -> Result<Option<Stop>, AllocError>
-    ensures { IfOk result (IsJudged (step_rates steps.now)) }
+/// The rates of steps, in their order.
+fn rates_of(alloc: Global, steps: &[Step]) -> Result<Items<Rate>, AllocError>
+    ensures { IfOk result (λ rates. rates ≡ step_rates steps.now) }
 {
     let mut rates = Items::new(alloc);
     for step in steps {
-        match &step.rate {
-            Rate::Active(rate) => rates.push(*rate)?,
-            Rate::Passive(_) => return Ok(Some(Stop::PassiveLeft)),
-        }
+        rates.push(step.rate)?;
     }
-    match weights(alloc, rates.as_slice()) {
-        Ok(_) => Ok(None),
-        Err(WeightFault::Overflow) => Ok(Some(Stop::WeightOverflow)),
-        Err(WeightFault::Memory) => Err(AllocError),
-    }
-}
-
-/// The stop by which the verdict's fault is told.
-fn stop_named(fault: StepFault) -> Stop
-    ensures { result ≡ stop_of fault }
-{
-    match fault {
-        StepFault::Mixed => Stop::Mixed,
-        StepFault::Overflow => Stop::Overflow,
-        StepFault::ListTooLong => Stop::ListTooLong,
-    }
+    Ok(rates)
 }

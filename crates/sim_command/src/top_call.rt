@@ -1,24 +1,22 @@
 //! The whole program, over any source and sinks.
 ghost use Rattle.std.specs.Prelude.{◌≡◌, ℕ, ◌≤◌, ◌^◌, List, length, map};
 ghost use Rattle.std.specs.String.{string_bytes};
-ghost use Rattle.sim_command.specs.FaultLine.{fault_text};
+ghost use Rattle.sim_report.specs.FaultLine.{fault_text};
 ghost use Rattle.sim_command.specs.Words.{IsCommand};
-ghost use Rattle.sim_command.specs.TopCall.{IsEnding, IsInputEnding, IsDelivery, IsTold, seen};
+ghost use Rattle.sim_command.specs.TopCall.{IsEnding, IsInputEnding, IsDelivery, IsLineWritten, seen};
 ghost use Rattle.sim_command.specs.DeviceCalls.{IsReadOnce, IsWrittenOnce, IsDeliveredBy};
 
 use crate::answer::command_answer;
 use crate::answered::Answered;
-use crate::fault::Fault;
-use crate::fault_lines::fault_line;
-use crate::line::Line;
 use crate::words::{Command, WordsFault, read_words};
 use sim_outside::{ReadEnd, Sink, Source, read_all, write_all};
+use sim_report::{Fault, Line, fault_line};
 use std::alloc::Global;
 
 /// How many bytes an input has at most.
 const MOST_BYTES: usize = 1 << 20;
 
-/// How a call ends: its status, and the line that tells a fault, which is empty at status 0.
+/// How a call ends: its status, and the line of a fault, which is empty at status 0.
 #[derive(Drop)]
 pub(crate) struct Ending {
     pub status: u8,
@@ -50,7 +48,8 @@ pub fn pepaprobe<S: Source, K: Sink, E: Sink>(
         (seen (S.left source.old) (S.left source.new) (S.faults source.old) (S.faults source.new))
         (seen (K.written out.old) (K.written out.new) (K.faults out.old) (K.faults out.new))
         line result
-        × IsTold (seen (E.written err.old) (E.written err.new) (E.faults err.old) (E.faults err.new)) line }
+        × IsLineWritten
+        (seen (E.written err.old) (E.written err.new) (E.faults err.old) (E.faults err.new)) line }
     ensures source_calls { IsReadOnce S.one_read source.old result source.new }
     ensures out_calls { IsWrittenOnce K.one_write out.old result out.new }
 {
@@ -118,7 +117,8 @@ fn deliver<K: Sink>(answered: Answered, out: &mut K) -> Ending
     ensures ending { IsDelivery answered
         (seen (K.written out.old) (K.written out.new) (K.faults out.old) (K.faults out.new))
         result.line result.status }
-    ensures out_calls { IsDeliveredBy K.one_write out.old answered.out answered.status result.status out.new }
+    ensures out_calls { IsDeliveredBy K.one_write out.old answered.out answered.status
+        result.status out.new }
 {
     let Answered {
         status,

@@ -1,3 +1,4 @@
+//! The words of a call.
 ghost use Rattle.std.specs.Prelude.{map, string_bytes};
 ghost use Rattle.sim_command.specs.Words.{ReadsWords};
 

@@ -2,7 +2,7 @@
 use Rattle.std.proofs.Common.{◌≡◌, ℕ, ◌+◌, Option, None, Some, List, ◌++◌, take, drop, sym, ap, ◌∙◌, append_assoc}
 use Rattle.std.proofs.Math.Seq.{take-add}
 use Rattle.sim_outside.specs.Source.{Takes}
-use Rattle.sim_outside.specs.Sink.{Grows}
+use Rattle.sim_outside.specs.Sink.{GrowsBy}
 
 -- what a second call takes follows what the first took
 pub Takes-trans : (a b c : Option (List ℕ)) (xs ys : List ℕ) → Takes a b xs → Takes b c ys → Takes a c (xs ++ ys)
@@ -19,15 +19,15 @@ Takes-behind a b c before after filled count same p q =
     rw (take-add, same) r
 
 -- a sink grows by what a second call adds behind what the first did
-pub Grows-trans : (a b c : Option (List ℕ)) (xs ys : List ℕ) → Grows a b xs → Grows b c ys → Grows a c (xs ++ ys)
-Grows-trans None b c xs ys p q = tt
-Grows-trans (Some i) None c xs ys p q = cc
-Grows-trans (Some i) (Some j) c xs ys p q =
+pub GrowsBy-trans : (a b c : Option (List ℕ)) (xs ys : List ℕ) → GrowsBy a b xs → GrowsBy b c ys → GrowsBy a c (xs ++ ys)
+GrowsBy-trans None b c xs ys p q = tt
+GrowsBy-trans (Some i) None c xs ys p q = cc
+GrowsBy-trans (Some i) (Some j) c xs ys p q =
     let e : j ≡ i ++ xs = cc in
     let f : (i ++ xs) ++ ys ≡ i ++ (xs ++ ys) = append_assoc i xs ys in
     cc
 
 -- the same for two parts of one piece
-pub Grows-behind : (a b c : Option (List ℕ)) (piece : List ℕ) (taken count : ℕ) → Grows a b (take taken piece)
-    → Grows b c (take count (drop taken piece)) → Grows a c (take (taken + count) piece)
-Grows-behind a b c piece taken count p q = rw take-add (Grows-trans a b c _ _ p q)
+pub GrowsBy-behind : (a b c : Option (List ℕ)) (piece : List ℕ) (taken count : ℕ) → GrowsBy a b (take taken piece)
+    → GrowsBy b c (take count (drop taken piece)) → GrowsBy a c (take (taken + count) piece)
+GrowsBy-behind a b c piece taken count p q = rw take-add (GrowsBy-trans a b c _ _ p q)

@@ -7,22 +7,22 @@ abbrev pub IsTaken : ℕ → ℕ → Type 0
 IsTaken len count = (count ≤ len) × (0 < len → 0 < count)
 
 -- the bytes written grow by these
-abbrev pub Grows : Option (List ℕ) → Option (List ℕ) → List ℕ → Type 0
-Grows None after piece = Unit {0}
-Grows (Some written) after piece = after ≡ Some (written ++ piece)
+abbrev pub GrowsBy : Option (List ℕ) → Option (List ℕ) → List ℕ → Type 0
+GrowsBy None after piece = Unit {0}
+GrowsBy (Some written) after piece = after ≡ Some (written ++ piece)
 
 -- the bytes written stay as they were
-abbrev pub Stays : Option (List ℕ) → Option (List ℕ) → Type 0
-Stays None after = Unit {0}
-Stays (Some written) after = after ≡ Some written
+abbrev pub KeepsBytes : Option (List ℕ) → Option (List ℕ) → Type 0
+KeepsBytes None after = Unit {0}
+KeepsBytes (Some written) after = after ≡ Some written
 
 -- a write adds the bytes that it takes, the first ones of the piece; one that fails adds none
 abbrev pub Writes : {E : Type 0} → Option (List ℕ) → Option (List ℕ) → Result ℕ E → List ℕ → Type 0
-Writes before after (Ok count) piece = Grows before after (take count piece)
-Writes before after (Err e) piece = Stays before after
+Writes before after (Ok count) piece = GrowsBy before after (take count piece)
+Writes before after (Err e) piece = KeepsBytes before after
 
 -- the whole piece is added; where that fails, a part of its front is, and not all of it
 abbrev pub WritesAll : {X E : Type 0} → Option (List ℕ) → Option (List ℕ) → Result X E → List ℕ → Type 0
-WritesAll before after (Ok x) piece = Grows before after piece
+WritesAll before after (Ok x) piece = GrowsBy before after piece
 WritesAll before after (Err e) piece =
-    (count : ℕ) × (count < length piece) × Grows before after (take count piece)
+    (count : ℕ) × (count < length piece) × GrowsBy before after (take count piece)

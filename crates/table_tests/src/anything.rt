@@ -26,6 +26,7 @@ pub fn last_pass(table: &Table<Anything>, passes: &mut Passes<Anything>) -> Opti
     requires { AreNew table.now.table_id table.now.setting passes.old.items }
     ensures own { IfSome result (λ p. Belongs p table.now.table_id table.now.setting) }
     ensures idle { IfSome result (λ p. p.view.seat.phase ≡ Idle) }
+    ensures mine { IfSome result (λ p. p.view.mine ≡ []) }
     ensures rest { AreNew table.now.table_id table.now.setting passes.new.items }
 {
     passes.pop()

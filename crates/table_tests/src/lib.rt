@@ -1,4 +1,4 @@
-//! Tests of the table on atomic words: numbers for keys, from one thread and from several.
+//! Tests of the table on atomic words: numbers for keys and lists for numbers, from one thread and from several.
 //!
 //! They call public functions alone, and have a crate of their own since a crate with tests is proved twice.
 #![tactic(auto)]
@@ -7,6 +7,8 @@
 mod anything;
 #[cfg(test)]
 mod counting;
+#[cfg(test)]
+mod lists;
 #[cfg(test)]
 mod rows;
 #[cfg(test)]

@@ -1,25 +1,27 @@
-//! Several threads intern the same keys.
+//! Several threads intern the same keys, and offer lists for their numbers.
 ghost use Rattle.std.specs.Prelude.{◌≡◌, IfOk};
 ghost use Rattle.intern_core.specs.declared.seat.Phase.TheVariants.{Idle};
 ghost use Rattle.chain_rule.specs.Passes.{Belongs};
 
 use crate::anything::{Anything, last_pass};
+use crate::lists::intern_and_offer;
 use chain_rule::{Pass, Table, meet, note};
 use intern_core::{Key, Shape};
 use std::alloc::{AllocError, Global};
 use std::process::Abort;
 use std::test::Fail;
 use std::thread::{Threads, join};
-use term_table::intern;
 
-/// What a thread hands back: its pass, and the number of each key, or 0 where the table was full.
+/// What a thread hands back: its pass, the number of each key, or 0 where the table was full, and whether it has published a list
+/// for it.
 #[derive(Drop)]
 pub struct Handed {
     pub pass: Pass<Anything>,
     pub numbers: Vec<u32>,
+    pub firsts: Vec<bool>,
 }
 
-/// Interns keys one after another.
+/// Interns keys one after another, and offers a list for each number that has none.
 pub fn intern_all(
     alloc: Global,
     table: &Table<Anything>,
@@ -33,14 +35,17 @@ pub fn intern_all(
 {
     let mut pass = pass;
     let mut numbers = Vec::new(alloc);
+    let mut firsts = Vec::new(alloc);
     for key in keys {
-        let number = match intern(table, &mut pass, *key) {
-            Ok(number) => number,
-            Err(_) => 0,
-        };
+        let (number, first) = intern_and_offer(table, &mut pass, *key);
         numbers.push(number)?;
+        firsts.push(first)?;
     }
-    Ok(Handed { pass, numbers })
+    Ok(Handed {
+        pass,
+        numbers,
+        firsts,
+    })
 }
 
 // Forty keys, of which some share a word.

@@ -1,4 +1,4 @@
-//! Four threads on small tables: whatever they do, each key has one number.
+//! Four threads on small tables: whatever they do, each key has one number, and each number at most one list.
 ghost use Rattle.std.specs.Prelude.{◌≡◌, ◌<◌, ◌≤◌, IfOk};
 ghost use Rattle.std.specs.Thread.{IsSync};
 ghost use Rattle.intern_core.specs.declared.seat.Phase.TheVariants.{Idle};
@@ -6,6 +6,7 @@ ghost use Rattle.chain_rule.specs.Passes.{Belongs};
 ghost use Rattle.chain_rule.specs.Rule.{IsFront};
 
 use crate::anything::{Anything, last_pass};
+use crate::lists::publisher_of;
 use crate::shared::{Handed, intern_all, intern_by_two};
 use chain_rule::{Pass, Table, meet, note};
 use intern_core::{Key, Shape};
@@ -206,19 +207,114 @@ fn are_of_one_table(
     assert!(rt; known(numbers) > 0);
 }
 
+// Each list that a thread published is its number's, whole, also for another pass.
+fn lists_are_there(
+    rt: &impl Abort,
+    table: &Table<Anything>,
+    pass: &mut Pass<Anything>,
+    keys: &[Key],
+    firsts: &[bool],
+    publisher: u32,
+)
+    requires own { Belongs pass.old table.now.table_id table.now.setting }
+    requires idle { pass.old.view.seat.phase ≡ Idle }
+    ensures own { Belongs pass.new table.now.table_id table.now.setting }
+    ensures idle { pass.new.view.seat.phase ≡ Idle }
+{
+    assert!(rt; keys.len() == firsts.len());
+    for i in 0..keys.len() {
+        if firsts[i] {
+            let found = publisher_of(table, pass, keys[i]);
+            assert!(rt; found == Some(u64::from(publisher)));
+        }
+    }
+}
+
+// How many lists were published.
+fn published(firsts: &[bool]) -> u32 {
+    let mut published = 0u32;
+    for first in firsts {
+        if *first {
+            published = published.wrapping_add(1);
+        }
+    }
+    published
+}
+
+// The lists of four threads are those of their numbers, and fit the region.
+fn lists_are_of_one_table(
+    rt: &impl Abort,
+    table: &Table<Anything>,
+    pass: &mut Pass<Anything>,
+    entries: u32,
+    keys: &Asked,
+    four: &Four,
+)
+    requires own { Belongs pass.old table.now.table_id table.now.setting }
+    requires idle { pass.old.view.seat.phase ≡ Idle }
+{
+    let (a, b) = (&four.left.0, &four.left.1);
+    let (c, d) = (&four.right.0, &four.right.1);
+    let firsts = [
+        a.firsts.as_slice(),
+        b.firsts.as_slice(),
+        c.firsts.as_slice(),
+        d.firsts.as_slice(),
+    ];
+    lists_are_there(
+        rt,
+        table,
+        pass,
+        keys.a.as_slice(),
+        firsts[0],
+        a.pass.seat().pass,
+    );
+    lists_are_there(
+        rt,
+        table,
+        pass,
+        keys.b.as_slice(),
+        firsts[1],
+        b.pass.seat().pass,
+    );
+    lists_are_there(
+        rt,
+        table,
+        pass,
+        keys.c.as_slice(),
+        firsts[2],
+        c.pass.seat().pass,
+    );
+    lists_are_there(
+        rt,
+        table,
+        pass,
+        keys.d.as_slice(),
+        firsts[3],
+        d.pass.seat().pass,
+    );
+    let mut all = 0u32;
+    for each in firsts {
+        all = all.saturating_add(published(each));
+    }
+    assert!(rt; all.saturating_mul(3) <= entries);
+    assert!(rt; entries < 3 || all > 0);
+}
+
 fn run_four<R: Threads + Abort + Sync>(
     rt: &R,
     alloc: Global,
     nodes: u32,
     bucket_bits: u32,
     count: u32,
+    entries: u32,
 ) -> Result<(), AllocError>
-    requires { (0 < nodes) × (nodes ≤ 64) × (bucket_bits ≤ 4) }
+    requires { (0 < nodes) × (nodes ≤ 64) × (bucket_bits ≤ 4) × (entries ≤ 200) }
 {
     let shape = Shape {
         nodes,
         bucket_bits,
-        entries: 0,
+        entries,
         passes: 5,
     };
     let (table, mut passes) = Table::make(alloc, Anything, shape)?;
@@ -234,26 +330,27 @@ fn run_four<R: Threads + Abort + Sync>(
     meet_with(&table, &mut fifth, &mut four.right.0.pass);
     meet_with(&table, &mut fifth, &mut four.right.1.pass);
     let all = all_keys(alloc, count)?;
-    let handed = intern_all(alloc, &table, fifth, all.as_slice())?;
+    let mut handed = intern_all(alloc, &table, fifth, all.as_slice())?;
     are_of_one_table(rt, &shape, &keys, &four, count, handed.numbers.as_slice());
+    lists_are_of_one_table(rt, &table, &mut handed.pass, entries, &keys, &four);
     Ok(())
 }
 
 #[test]
 fn four_threads_on_small_tables(rt: HostRuntime) -> Result<(), Fail> {
     let table = [
-        (2, 0, 2),
-        (2, 0, 5),
-        (3, 1, 3),
-        (8, 2, 8),
-        (8, 2, 20),
-        (16, 0, 16),
-        (33, 3, 30),
-        (64, 4, 40),
+        (2, 0, 2, 0),
+        (2, 0, 5, 6),
+        (3, 1, 3, 2),
+        (8, 2, 8, 10),
+        (8, 2, 20, 200),
+        (16, 0, 16, 48),
+        (33, 3, 30, 31),
+        (64, 4, 40, 200),
     ];
-    for (nodes, bucket_bits, count) in table {
-        assert!(rt; 0 < nodes && nodes <= 64 && bucket_bits <= 4);
-        run_four(&rt, rt.alloc(), nodes, bucket_bits, count)?;
+    for (nodes, bucket_bits, count, entries) in table {
+        assert!(rt; 0 < nodes && nodes <= 64 && bucket_bits <= 4 && entries <= 200);
+        run_four(&rt, rt.alloc(), nodes, bucket_bits, count, entries)?;
     }
     Ok(())
 }

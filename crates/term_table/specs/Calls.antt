@@ -12,12 +12,16 @@ use Rattle.intern_core.specs.History.{Known, known, number_in, uses}
 use Rattle.intern_core.specs.Pace.{key_in, pace}
 use Rattle.chain_rule.specs.declared.view.View.{View}
 
--- the front went on and ends with the call, which is one more of the pass; the pass has no call in flight
+-- The front went on and ends with the call, which is one more of the pass; the pass has no call in flight. Whether it was answered that
+-- there is no room stays; a pass that is marked full stays so, and it is once it was answered so.
 pub record HasAnswered {M : Type 0} (key : Key) (reply : Reply) (v w : View M) : Type 0 where
   pub between : List Entry
   pub front : w.front ≡ (v.front ++ between) ++ Call v.seat.pass key reply ∷ []
   pub mine : w.mine ≡ v.mine ++ Call v.seat.pass key reply ∷ []
   pub number : w.seat.pass ≡ v.seat.pass
+  pub refused : w.seat.refused ≡ v.seat.refused
+  pub mark : v.seat.marked ≡ true → w.seat.marked ≡ true
+  pub full : reply ≡ Full → w.seat.marked ≡ true
   pub idle : w.seat.phase ≡ Idle
 
 -- the call is still in flight
@@ -26,6 +30,8 @@ pub record IsGoing {M : Type 0} (key : Key) (v w : View M) : Type 0 where
   pub front : w.front ≡ v.front ++ between
   pub mine : w.mine ≡ v.mine
   pub number : w.seat.pass ≡ v.seat.pass
+  pub refused : w.seat.refused ≡ v.seat.refused
+  pub mark : v.seat.marked ≡ true → w.seat.marked ≡ true
   pub call : key_in w.seat.phase ≡ Some key
 
 -- how many steps are left at most, in a table with so many nodes
@@ -53,9 +59,11 @@ pub record HasKey (n : ℕ) (key : Key) (seen : List Known) : Type 0 where
 abbrev pub IsNumberOf : Key → ℕ → List Entry → Type 0
 IsNumberOf key n history = (number_in (known history) key ≡ Some n) × (0 < uses n (known history))
 
--- the table was full before the entry: the key was unknown, and all numbers but at most one for each pass were known
+-- the table was full before the entry: the key was unknown, and all numbers but at most one for each pass were known; the pass is
+-- then marked full
 pub record WasFull {M : Type 0} (shape : Shape) (key : Key) (v w : View M) : Type 0 where
   pub before : List Entry
   pub front : w.front ≡ before ++ Call v.seat.pass key Full ∷ []
   pub unknown : number_in (known before) key ≡ None
   pub many : shape.nodes ≤ length (known before) + shape.passes
+  pub marked : w.seat.marked ≡ true

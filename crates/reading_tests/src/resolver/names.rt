@@ -1,7 +1,7 @@
 //! The limits on lines, and names that are unknown or defined twice.
 
 use super::is_judged;
-use pepa_resolver::CheckCause;
+use pepa_resolver::ResolveCause;
 use std::test::Fail;
 
 const FINE: &[&str] = &[
@@ -97,10 +97,10 @@ const TAU: &[&str] = &[
 #[test]
 fn names_and_sets(rt: HostRuntime) -> Result<(), Fail> {
     let table = [
-        (CheckCause::BadRate, FINE),
-        (CheckCause::Twice, TWICE),
-        (CheckCause::UnknownName, UNKNOWN),
-        (CheckCause::TauInSet, TAU),
+        (ResolveCause::BadRate, FINE),
+        (ResolveCause::Twice, TWICE),
+        (ResolveCause::UnknownName, UNKNOWN),
+        (ResolveCause::TauInSet, TAU),
     ];
     for (cause, texts) in table {
         for text in texts {

@@ -1,7 +1,8 @@
 //! The values of rates, and where they are refused.
 
-use super::{check, is_judged, line_of};
-use pepa_resolver::CheckCause;
+use super::numbers::line_of;
+use super::{is_judged, resolved};
+use pepa_resolver::ResolveCause;
 use std::test::Fail;
 
 // Where each rate is refused, both in a line and in an activity. `m` is passive and `x` is 2.
@@ -70,9 +71,9 @@ fn refused_rates(rt: HostRuntime) -> Result<(), Fail> {
     ];
     for rate in table {
         let line = format!(in rt.alloc(); "m = infty; x = 2; r = {rate}; P = (a,1).P; P")?;
-        is_judged(&rt, rt.alloc(), CheckCause::BadRate, &line)?;
+        is_judged(&rt, rt.alloc(), ResolveCause::BadRate, &line)?;
         let activity = format!(in rt.alloc(); "P = (a,{rate}).P; m = infty; x = 2; P")?;
-        is_judged(&rt, rt.alloc(), CheckCause::BadRate, &activity)?;
+        is_judged(&rt, rt.alloc(), ResolveCause::BadRate, &activity)?;
     }
     Ok(())
 }
@@ -125,7 +126,7 @@ fn order_of_rates(rt: HostRuntime) -> Result<(), Fail> {
         "P = (a,1/s).P; r = @0.5*infty; s = r; P",
     ];
     for text in table {
-        is_judged(&rt, rt.alloc(), CheckCause::BadRate, text)?;
+        is_judged(&rt, rt.alloc(), ResolveCause::BadRate, text)?;
     }
     Ok(())
 }
@@ -169,9 +170,9 @@ fn values(rt: HostRuntime) -> Result<(), Fail> {
     ];
     for (rate, value) in table {
         let text = format!(in rt.alloc(); "m = 3*T; x = 2; r = {rate}; P = (a,r).P; P")?;
-        let found = check(&rt, rt.alloc(), text.as_bytes())??;
+        let found = resolved(&rt, rt.alloc(), text.as_bytes())?;
         let line = line_of(rt.alloc(), &found)?;
-        let want = format!(in rt.alloc(); "m=3/1*T x=2/1 r={value} P 3")?;
+        let want = format!(in rt.alloc(); "P : tau a : (a1,{value}.c0) c0")?;
         assert_eq!(rt; line.as_str(), want.as_str(), "{rate}");
     }
     Ok(())

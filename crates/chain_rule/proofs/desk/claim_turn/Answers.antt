@@ -6,6 +6,6 @@ pub fetch_add-requires : goal.fetch_add-requires
 fetch_add-requires g c = (
   c.requires.own,
   c.requires.word,
-  allows_claim g.M.Meaning.lawful g.M.Meaning.allowed g.M.Meaning.stands g.M.Meaning.lawful_stays c.args.table.now.table.shared.key c.args.table.now.setting c.args.table.now.told
-      c.args.table.now.table.shared.table_id.slots c.args.place.now.id c.args.word g.J.Begins.begins c.args.place.now.me c.requires.turn.0 c.requires.turn.1 c.requires.claim,
+  allows_claim g.M.Meaning.lawful g.M.Meaning.allowed g.M.Meaning.stands g.M.Meaning.lawful_stays g.M.Meaning.stands_stays c.args.table.now.table.shared.key c.args.table.now.setting c.args.table.now.told
+      c.args.table.now.table.shared.table_id.slots c.args.place.now.id c.args.word c.args.more g.J.Beginning.begins g.J.Beginning.told c.args.place.now.me c.requires.turn.0 c.requires.turn.1 c.requires.claim,
 )

@@ -11,7 +11,7 @@ join_seat-requires g c = (
   ap (λ (n : Noted). n.table_id) c.note.view_is ∙ c.requires.note,
   c.note.invariant.0,
   (let n = c.args.table.now.sized in omega arith),
-  joins_note g.M.Meaning.lawful g.M.Meaning.allowed g.M.Meaning.stands c.args.table.now.table.shared.key g.M.Meaning.lawful_stays c.pass.inside.place.id c.note.inside.place.id
+  joins_note g.M.Meaning.lawful g.M.Meaning.allowed g.M.Meaning.stands c.args.table.now.table.shared.key c.pass.inside.place.id c.note.inside.place.id
       c.pass.inside.place.me.0 c.note.inside.place.me.0 c.pass.invariant.2.walks c.note.invariant.1,
 )
 

@@ -4,8 +4,8 @@ use Rattle.std.proofs.lemmas.List.{take_all}
 use Rattle.std.proofs.lemmas.List.{length-replicate}
 use Rattle.std.proofs.lemmas.Option.{slice_get_within}
 use Rattle.std.proofs.lemmas.Result.{err_from_is_err_and}
-use Rattle.pepa_resolver.specs.Graphs.{IsMarked}
-use Rattle.pepa_checks.specs.ActivityLists.{LeafChoices, outline}
+use Rattle.node_orders.specs.Graphs.{SaysYes}
+use Rattle.pepa_checks.specs.ActivityLists.{LeafChoices, choices_outline}
 use Rattle.pepa_checks.proofs.SizeCounting.{below_at}
 use Rattle.pepa_checks.proofs.ListsMaking.{kept_none, none_marked}
 use Rattle.pepa_checks.proofs.Performances.{constant_leaf}
@@ -22,7 +22,7 @@ in_file compounds order constants leaves choices k low =
 
 has_leaf : (compounds : List Bool) (order constants : List ℕ) (leaves : _) (choices : LeafChoices compounds order constants leaves) (at : ℕ) → at < length compounds → get_or compounds at false ≡ false → get_or constants at 0 < length leaves
 has_leaf compounds order constants leaves choices at low unset =
-    let h = slice_get_within (outline choices).leaves (get_or constants at 0) _ (constant_leaf compounds order constants leaves choices at (unset_at compounds at low unset)) in
+    let h = slice_get_within (choices_outline choices).leaves (get_or constants at 0) _ (constant_leaf compounds order constants leaves choices at (unset_at compounds at low unset)) in
     let e = choices.operands.one_each in
     omega arith
 
@@ -71,7 +71,7 @@ returns-in_err-make-clause-performed c =
     let within = has_leaf compounds order constants leaves c.requires at low c.if-not-compounds-constant.true in
     let operands_are = operands_at leaves (get_or constants at 0) c.index-leaves-number.result c.as_slice.result.now within c.index-leaves-number.is c.as_slice.ensures in
     λ choices.
-    rw (p.1, p.2) (end_after compounds order constants leaves choices before (get_or constants at 0) c.as_slice.result.now c.in_err-make.field-0.0 so_far.kept so_far.sizes operands_are
+    rw (p.1, p.2) (end_after compounds order constants leaves choices _ _ before (get_or constants at 0) c.as_slice.result.now c.in_err-make.field-0.0 so_far.kept so_far.sizes operands_are
     (ready_in_order compounds order constants leaves choices before.made k at c.loop-constant-test.true refl flag_is so_far.ready) (so_far.sound choices) c.in_err-make.ensures)
 
 pub loop-constant-preserved : goal.loop-constant-preserved
@@ -138,7 +138,7 @@ returns-in_err-make-2-clause-performed c =
     let operands = c.as_slice-in-loop-number.result.now in
     let operands_are = operands_at leaves number c.index-leaves-number-in-loop-number.result operands c.loop-number-test.true c.index-leaves-number-in-loop-number.is c.as_slice-in-loop-number.ensures in
     λ choices.
-    rw (p.1, p.2) (end_after compounds order constants leaves choices before number operands c.in_err-make-2.field-0.0 so_far.kept so_far.sizes operands_are
+    rw (p.1, p.2) (end_after compounds order constants leaves choices _ _ before number operands c.in_err-make-2.field-0.0 so_far.kept so_far.sizes operands_are
     (ready_behind compounds order constants leaves choices before.made number so_far.ready) (so_far.sound choices) c.in_err-make-2.ensures)
 
 pub loop-number-preserved : goal.loop-number-preserved
@@ -155,7 +155,7 @@ loop-number-preserved c =
     let after = c.make-in-loop-number.new.self in
     let makes = c.in_ok-make-2.ensures.1 in
     let marked = marked_after constants operands number before after (omega (arith, so_far.kept.sizes, so_far.sizes)) makes in
-    let still = λ (n : ℕ) (known : IsMarked before.made n). still_after constants operands number before after n makes known in
+    let still = λ (n : ℕ) (known : SaysYes before.made n). still_after constants operands number before after n makes known in
     record {
       kept = c.in_ok-make-2.ensures.0;
       sizes = sizes_after constants operands number before after makes ∙ so_far.sizes;

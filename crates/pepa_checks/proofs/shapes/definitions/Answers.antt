@@ -4,7 +4,7 @@ use Rattle.std.proofs.lemmas.Option.{slice_get-get_or, slice_get_read}
 use Rattle.indexmap.specs.IndexMap.{keys}
 use Rattle.pepa_model.specs.Expression.{Definition, definition_of}
 use Rattle.pepa_resolver.specs.NamedTypes.{named_of}
-use Rattle.pepa_resolver.proofs.Bodies.{body_at}
+use Rattle.pepa_checks.proofs.Bodies.{body_at}
 use Rattle.pepa_checks.proofs.DefinitionLists.{definitions_more}
 use Rattle.pepa_checks.proofs.shapes.definitions.Goals as goal
 

@@ -2,9 +2,9 @@ use Rattle.std.proofs.Common.{◌≡◌, ◌-◌, arith, refl}
 use Rattle.pepa_lexer.specs.declared.kinds.Kind.TheVariants.{Small}
 use Rattle.pepa_lexer.specs.declared.kinds.Token.{Token}
 use Rattle.pepa_lexer.specs.declared.kinds.Sign.TheVariants.{Star, Less, OpeningBracket}
-use Rattle.pepa_reader.specs.declared.terminal.Terminal.TheVariants.{Probe, Mark}
-use Rattle.pepa_reader.specs.Reading.{kinds_of}
-use Rattle.pepa_reader.proofs.Places.{begins_there, stands_there, has_place}
+use Rattle.token_grammar.specs.declared.terminal.Terminal.TheVariants.{Probe, Mark}
+use Rattle.token_grammar.specs.Cursors.{kinds_of}
+use Rattle.token_grammar.proofs.Places.{begins_there, stands_there, has_place}
 use Rattle.pepa_reader.proofs.file.cause.Goals.{else-begun-eq1-via-then-begun-eq1+else-comes, else-begun-eq1-via-else-begun-eq1, else-i-gt0-via-then-i-gt0+then-comes-3+else-comes-4, else-i-gt0-via-then-i-gt0+else-comes-3, else-i-gt0-via-else-i-gt0}
 use Rattle.pepa_reader.proofs.file.cause.Goals as goal
 

@@ -5,7 +5,7 @@ use Rattle.pepa_rates.specs.declared.rate.Rate.{Rate}
 use Rattle.pepa_resolver.specs.declared.values.Unvalued.{Unvalued}
 use Rattle.indexmap.specs.IndexMap.{keys}
 use Rattle.pepa_reader.specs.Trees.{rate_line_of, rate_node_of}
-use Rattle.pepa_resolver.specs.Parts.{name_at}
+use Rattle.token_grammar.specs.Terminals.{name_at}
 use Rattle.pepa_resolver.specs.Outcomes.{Outcome, rate_outcome, AreOutcomes}
 use Rattle.pepa_resolver.specs.Values.{outcome_of, named_in}
 use Rattle.pepa_resolver.proofs.OutcomeLists.{line_more}

@@ -1,6 +1,6 @@
 use Rattle.std.proofs.Common.{map, take}
 use Rattle.pepa_reader.specs.Trees.{rate_line_of}
-use Rattle.pepa_resolver.specs.Parts.{name_at}
+use Rattle.token_grammar.specs.Terminals.{name_at}
 use Rattle.pepa_resolver.specs.Outcomes.{AreOutcomes}
 use Rattle.pepa_resolver.specs.Values.{outcome_of}
 use Rattle.pepa_resolver.proofs.lines.line_values.Given as goal

@@ -1,7 +1,7 @@
 use Rattle.std.proofs.Common.{ap, map, ◌∙◌}
 use Rattle.std.proofs.lemmas.Result.{err_from_is_err_and}
 use Rattle.pepa_reader.specs.Trees.{file_node_of}
-use Rattle.pepa_resolver.specs.Parts.{name_at}
+use Rattle.token_grammar.specs.Terminals.{name_at}
 use Rattle.pepa_resolver.proofs.NamesSteps.{rates_at_are, constants_at_are, passed, neither, limits, twice_in, stops_at_limits, stops_at_twice, fine_names}
 use Rattle.pepa_resolver.proofs.names.names_of.Goals as goal
 

@@ -1,6 +1,6 @@
 use Rattle.std.proofs.Common.{◌≡◌, [], ◌∷◌, map, flat_map, take, codes}
 use Rattle.indexmap.specs.IndexMap.{keys}
-use Rattle.pepa_resolver.specs.Parts.{name_at}
+use Rattle.token_grammar.specs.Terminals.{name_at}
 use Rattle.pepa_resolver.specs.Numbers.{words_in}
 use Rattle.pepa_resolver.specs.NumberSteps.{with_names}
 use Rattle.pepa_resolver.proofs.FileLines.{bodies_of}

@@ -1,6 +1,6 @@
 use Rattle.std.proofs.Common.{◌≡◌, map, take}
 use Rattle.indexmap.specs.IndexMap.{keys}
-use Rattle.pepa_resolver.specs.Parts.{name_at}
+use Rattle.token_grammar.specs.Terminals.{name_at}
 use Rattle.pepa_resolver.specs.NumberSteps.{with_names}
 use Rattle.pepa_resolver.proofs.naming.add_words.Given as goal
 

@@ -1,7 +1,8 @@
 use Rattle.std.proofs.Common.{◌≡◌, take, get_or, ◌∙◌, true}
 use Rattle.std.proofs.lemmas.List.{take_more}
 use Rattle.pepa_resolver.specs.NamesAnswers.{IsTau}
-use Rattle.pepa_resolver.proofs.Findings.{no_element, finds_more, finds_no_more}
+use Rattle.node_orders.proofs.Elements.{no_element}
+use Rattle.pepa_resolver.proofs.Findings.{finds_more, finds_no_more}
 use Rattle.pepa_resolver.proofs.sets.tau_among.Goals.{then-is_tau, else-is_tau}
 use Rattle.pepa_resolver.proofs.sets.tau_among.Goals as goal
 

@@ -1,7 +1,7 @@
 use Rattle.std.proofs.Common.{get_or, take, rules, ◌∙◌}
 use Rattle.std.proofs.lemmas.List.{take_more, take_all}
 use Rattle.indexmap.specs.IndexMap.{keys}
-use Rattle.pepa_resolver.specs.Parts.{name_at}
+use Rattle.token_grammar.specs.Terminals.{name_at}
 use Rattle.pepa_resolver.proofs.Repeated.{nothing_yet, so_far_new, so_far_again}
 use Rattle.pepa_resolver.proofs.tables.line_names.Goals.{then-not-branch, else-not-branch}
 use Rattle.pepa_resolver.proofs.tables.line_names.Goals as goal

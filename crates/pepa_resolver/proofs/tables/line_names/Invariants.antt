@@ -1,6 +1,6 @@
 use Rattle.std.proofs.Common.{take}
 use Rattle.indexmap.specs.IndexMap.{keys}
-use Rattle.pepa_resolver.specs.Parts.{name_at}
+use Rattle.token_grammar.specs.Terminals.{name_at}
 use Rattle.pepa_resolver.proofs.Repeated.{SoFar}
 use Rattle.pepa_resolver.proofs.tables.line_names.Given as goal
 

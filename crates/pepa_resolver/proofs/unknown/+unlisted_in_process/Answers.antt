@@ -1,6 +1,6 @@
 use Rattle.indexmap.specs.IndexMap.{keys}
 use Rattle.pepa_reader.specs.Trees.{rate_node_of, process_node_of}
-use Rattle.pepa_resolver.specs.Parts.{name_at}
+use Rattle.token_grammar.specs.Terminals.{name_at}
 use Rattle.pepa_resolver.proofs.Listed.{all_keys}
 use Rattle.pepa_resolver.proofs.UnknownParts.{constant_finds, prefix_finds, sides_find}
 use Rattle.pepa_resolver.proofs.unknown.+unlisted_in_process.Goals as goal

@@ -1,7 +1,8 @@
 use Rattle.std.proofs.Common.{take}
 use Rattle.indexmap.specs.IndexMap.{keys}
 use Rattle.pepa_reader.specs.Trees.{rate_node_of}
-use Rattle.pepa_resolver.specs.Parts.{name_at, names_in}
+use Rattle.token_grammar.specs.Terminals.{name_at}
+use Rattle.pepa_resolver.specs.Parts.{names_in}
 use Rattle.pepa_resolver.specs.Finding.{IsUnlisted}
 use Rattle.pepa_resolver.proofs.Findings.{finds_append}
 use Rattle.pepa_resolver.proofs.unknown.+unlisted_in_rate.Goals as goal

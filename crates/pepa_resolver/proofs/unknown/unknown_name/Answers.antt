@@ -1,6 +1,6 @@
 use Rattle.indexmap.specs.IndexMap.{keys}
 use Rattle.pepa_reader.specs.Trees.{file_node_of}
-use Rattle.pepa_resolver.specs.Parts.{name_at}
+use Rattle.token_grammar.specs.Terminals.{name_at}
 use Rattle.pepa_resolver.proofs.FileLines.{unknown_in_file}
 use Rattle.pepa_resolver.proofs.unknown.unknown_name.Goals as goal
 

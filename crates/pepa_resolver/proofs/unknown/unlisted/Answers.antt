@@ -1,6 +1,6 @@
 use Rattle.std.proofs.Common.{sym, ◌∙◌}
 use Rattle.indexmap.specs.IndexMap.{keys}
-use Rattle.pepa_resolver.specs.Parts.{name_at}
+use Rattle.token_grammar.specs.Terminals.{name_at}
 use Rattle.pepa_resolver.proofs.Listed.{unlisted_none, unlisted_below, unlisted_nowhere}
 use Rattle.pepa_resolver.proofs.unknown.unlisted.Goals as goal
 

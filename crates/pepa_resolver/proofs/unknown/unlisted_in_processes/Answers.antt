@@ -2,7 +2,7 @@ use Rattle.std.proofs.Common.{take}
 use Rattle.std.proofs.lemmas.List.{take_all}
 use Rattle.indexmap.specs.IndexMap.{keys}
 use Rattle.pepa_reader.specs.Trees.{process_node_of}
-use Rattle.pepa_resolver.specs.Parts.{name_at}
+use Rattle.token_grammar.specs.Terminals.{name_at}
 use Rattle.pepa_resolver.specs.Finding.{IsUnlistedIn}
 use Rattle.pepa_resolver.proofs.FileLines.{bodies_of, some_none, some_more, bodies_more}
 use Rattle.pepa_resolver.proofs.unknown.unlisted_in_processes.Goals as goal

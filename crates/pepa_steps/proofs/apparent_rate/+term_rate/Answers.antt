@@ -7,7 +7,7 @@ use Rattle.pepa_steps.proofs.StateApparent.{leaf_answers, left_fault, right_faul
 use Rattle.pepa_steps.proofs.apparent_rate.+term_rate.Goals as goal
 
 pub component_rate-requires : goal.component_rate-requires
-component_rate-requires t c = leaf_can_open c.args.model.now c.is_sound.ensures _ _ c.leaf.ensures
+component_rate-requires t c = leaf_can_open c.args.model.now c.recall_invariant.ensures _ _ c.leaf.ensures
 
 pub returns-in_err-left-in-Coop : goal.returns-in_err-left-in-Coop
 returns-in_err-left-in-Coop t c =
@@ -32,12 +32,12 @@ returns-in-Leaf t c = leaf_answers _ c.args.model.now _ _ _ _ (ap term_of c.in-L
 
 pub returns-in_ok-right-in-Coop : goal.returns-in_ok-right-in-Coop
 returns-in_ok-right-in-Coop t c =
-    coop_answers _ c.args.model.now _ _ _ _ _ _ _ _ (ap term_of c.in-Coop.is) c.types_of.ensures.is
+    coop_answers _ c.args.model.now _ _ _ _ _ _ _ _ (ap term_of c.in-Coop.is) c.set.ensures.stored
     (rw c.deref.ensures at c.in_ok-left-in-Coop.ensures)
     (rw c.deref-in-Coop.ensures at c.in_ok-right-in-Coop.ensures)
     c.rate_of_cooperation.ensures
 
 pub returns-in_ok-inner-in-Hide : goal.returns-in_ok-inner-in-Hide
 returns-in_ok-inner-in-Hide t c =
-    hide_answers _ c.args.model.now _ _ _ c.types_of-in-Hide.result.now _ _ _ (ap term_of c.in-Hide.is) c.types_of-in-Hide.ensures.is refl
+    hide_answers _ c.args.model.now _ _ _ c.set-in-Hide.result.now _ _ _ (ap term_of c.in-Hide.is) c.set-in-Hide.ensures.stored refl
     (rw c.deref-in-Hide.ensures at c.in_ok-inner-in-Hide.ensures) c.rate_of_hiding.ensures

@@ -6,5 +6,5 @@ use Rattle.pepa_steps.proofs.apparent_rate.apparent.Goals as goal
 
 pub returns : goal.returns
 returns c = λ state stands.
-    let tree = state_opens c.args.model.now c.is_sound.ensures state (term_of c.args.term.now) stands in
+    let tree = state_opens c.args.model.now c.recall_invariant.ensures state (term_of c.args.term.now) stands in
     of_tree c.args.action c.args.model.now (term_of c.args.term.now) c.term_rate.result c.term_rate.ensures state tree.0 stands tree.1

@@ -1,6 +1,6 @@
 use Rattle.std.proofs.Common.{length, List, sym, ap, ◌∙◌, arith, refl}
 use Rattle.std.proofs.lemmas.List.{take_all}
-use Rattle.pepa_steps.specs.Moves.{alone}
+use Rattle.pepa_steps.specs.Moves.{outside_set}
 use Rattle.pepa_steps.specs.Combined.{numbered}
 use Rattle.pepa_steps.specs.declared.entries.Entry.{Entry}
 use Rattle.pepa_steps.proofs.TakenEntries.{numbered_more, counts_alone, same_alone}
@@ -29,4 +29,4 @@ loop-index-preserved c =
 
 pub returns : goal.returns
 returns c =
-    c.loop-index.invariant.0 ∙ ap (λ (es : List Entry). length (alone c.args.types.now (numbered 0 es))) (take_all _ c.args.entries.now c.loop-index-test.false)
+    c.loop-index.invariant.0 ∙ ap (λ (es : List Entry). length (outside_set c.args.types.now (numbered 0 es))) (take_all _ c.args.entries.now c.loop-index-test.false)

@@ -1,7 +1,7 @@
 use Rattle.std.proofs.Common.{List, refl, sym, ap, true, ℕ, ◌≡◌, subst}
 use Rattle.std.proofs.lemmas.Result.{err_from_is_err_and}
 use Rattle.std.proofs.lemmas.List.{take_all}
-use Rattle.pepa_steps.specs.Moves.{has, joint}
+use Rattle.pepa_steps.specs.Moves.{has, joint_moves}
 use Rattle.pepa_steps.specs.Combined.{numbered, rate_at}
 use Rattle.pepa_steps.specs.declared.entries.Entry.{Entry}
 use Rattle.pepa_steps.specs.declared.entries.Origin.TheVariants.{Both}
@@ -51,6 +51,6 @@ loop-index-preserved c =
 pub returns : goal.returns
 returns c =
     has_same c.args.derived.now c.loop-index.derived _ _
-    (ap (λ (es : List Entry). joint Both c.args.types.now (rate_at c.args.our_rates.now.entries) (rate_at c.args.their_rates.now.entries) (numbered 0 es) (numbered 0 c.args.theirs.now))
+    (ap (λ (es : List Entry). joint_moves Both c.args.types.now (rate_at c.args.our_rates.now.entries) (rate_at c.args.their_rates.now.entries) (numbered 0 es) (numbered 0 c.args.theirs.now))
     (take_all _ c.args.ours.now c.loop-index-test.false))
     c.loop-index.invariant

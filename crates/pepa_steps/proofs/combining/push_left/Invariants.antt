@@ -1,10 +1,10 @@
 use Rattle.std.proofs.Common.{map, take}
-use Rattle.pepa_steps.specs.Moves.{carry, alone}
-use Rattle.pepa_steps.specs.Combined.{Adds, numbered}
+use Rattle.pepa_steps.specs.Moves.{carry, outside_set}
+use Rattle.pepa_steps.specs.Combined.{AddsEntries, numbered}
 use Rattle.pepa_steps.specs.declared.entries.Origin.TheVariants.{Left}
 use Rattle.pepa_steps.proofs.combining.push_left.Given as goal
 
 abbrev pub invariant-loop-index : goal.invariant-loop-index
 invariant-loop-index l =
-    Adds l.initial.derived.entries.items l.derived.entries.items l.initial.derived.origins.items l.derived.origins.items
-    (map (carry Left) (alone l.types (numbered 0 (take l.index l.ours))))
+    AddsEntries l.initial.derived.entries.items l.derived.entries.items l.initial.derived.origins.items l.derived.origins.items
+    (map (carry Left) (outside_set l.types (numbered 0 (take l.index l.ours))))

@@ -1,6 +1,6 @@
 use Rattle.std.proofs.Common.{List, map, sym, ap, refl}
 use Rattle.std.proofs.lemmas.List.{take_all}
-use Rattle.pepa_steps.specs.Moves.{carry, alone}
+use Rattle.pepa_steps.specs.Moves.{carry, outside_set}
 use Rattle.pepa_steps.specs.Combined.{numbered}
 use Rattle.pepa_steps.specs.declared.entries.Entry.{Entry}
 use Rattle.pepa_steps.specs.declared.entries.Origin.TheVariants.{Right}
@@ -26,4 +26,4 @@ loop-index-preserved c =
     ]
 
 pub returns : goal.returns
-returns c = adds_same _ _ _ _ _ _ (ap (λ (l : List Entry). map (carry Right) (alone c.args.types.now (numbered 0 l))) (take_all _ c.args.theirs.now c.loop-index-test.false)) c.loop-index.invariant
+returns c = adds_same _ _ _ _ _ _ (ap (λ (l : List Entry). map (carry Right) (outside_set c.args.types.now (numbered 0 l))) (take_all _ c.args.theirs.now c.loop-index-test.false)) c.loop-index.invariant

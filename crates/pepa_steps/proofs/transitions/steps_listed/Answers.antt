@@ -10,11 +10,11 @@ loop-index-preserved c =
     let below : c.loop-index.index < length c.entries-entry-items.result.now = omega (arith, c.loop-index-test.true, c.loop-index.auto.index-end) in
     let here : slice_get c.entries-entry-items.result.now c.loop-index.index ≡ Some c.entry-item.result = slice_get-get_or c.entries-entry-items.result.now c.loop-index.index c.entry-item.result below ∙ ap Some (sym c.entry-item.is) in
     subst (λ (list : List Step). AreFirst c.args.model.now c.args.term.now list (c.loop-index.index + 1)) (sym c.in_ok-push.ensures.items)
-    (one_more c.args.model.now c.is_sound.ensures c.args.term.now c.args.buffers.now c.requires c.loop-index.index
+    (one_more c.args.model.now c.recall_invariant.ensures c.args.term.now c.args.buffers.now c.requires c.loop-index.index
     (omega (arith, below, ap length c.entries-entry-items.ensures)) c.loop-index.list.items c.loop-index.invariant c.entry-item.result
     (sym (ap (λ (l : List Entry). slice_get l c.loop-index.index) c.entries-entry-items.ensures) ∙ here) c.in_ok-target.field-0 c.in_ok-target.ensures.stands)
 
 pub returns : goal.returns
 returns c =
-    all_first c.args.model.now c.is_sound.ensures c.args.term.now c.args.buffers.now c.requires c.loop-index.list.items c.loop-index.index
+    all_first c.args.model.now c.recall_invariant.ensures c.args.term.now c.args.buffers.now c.requires c.loop-index.list.items c.loop-index.index
     (omega (arith, c.loop-index-test.false, c.loop-index.auto.index-end, ap length c.entries-entry-items.ensures)) c.loop-index.invariant

@@ -1,5 +1,5 @@
 use Rattle.std.proofs.Common.{◌≡◌, length, take, drop, ◌-◌, ◌≤◌}
-use Rattle.sim_outside.specs.Sink.{Grows}
+use Rattle.sim_outside.specs.Sink.{GrowsBy}
 use Rattle.sim_outside.proofs.Chains.{WroteTo}
 use Rattle.sim_outside.proofs.writing.write_all.Given as goal
 
@@ -7,7 +7,7 @@ use Rattle.sim_outside.proofs.writing.write_all.Given as goal
 abbrev pub invariant-loop-taken : goal.invariant-loop-taken
 invariant-loop-taken g l = record {
   in_piece : l.taken ≤ length l.piece;
-  grown : Grows (g.K.Sink.written l.fn.sink) (g.K.Sink.written l.sink) (take l.taken l.piece);
+  grown : GrowsBy (g.K.Sink.written l.fn.sink) (g.K.Sink.written l.sink) (take l.taken l.piece);
   wrote : WroteTo g.K.Sink.one_write l.fn.sink l.piece l.sink (drop l.taken l.piece);
   none_failed : g.K.Sink.faults l.sink ≡ g.K.Sink.faults l.fn.sink;
 }

@@ -1,5 +1,5 @@
 -- Each step of the call, and what is left once it has ended.
-use Rattle.std.proofs.Common.{◌≡◌, ◌≤◌, ◌+◌, ◌*◌, ⊎_elim, refl, sym, ap, ◌∙◌, subst, subst₂, ◌<◌}
+use Rattle.std.proofs.Common.{◌≡◌, [], ◌≤◌, ◌+◌, ◌*◌, ⊎_elim, refl, sym, ap, ◌∙◌, subst, subst₂, ◌<◌}
 use Rattle.intern_core.specs.declared.seat.Seat.{Seat}
 use Rattle.intern_core.specs.declared.seat.Phase.{Phase}
 use Rattle.intern_core.specs.declared.seat.Phase.TheVariants.{Idle}
@@ -20,7 +20,7 @@ loop-last-init g c =
     let begins = ask_phase c.args.key u.seat in
     let last_is : c.begun_at-last.result ≡ asking c.args.key u.seat = c.begun_at-last.ensures ∙ ap (asking c.args.key) c.seat.ensures.same in
     let reply : answer_in c.begun_at-last.result.spare c.begun_at-last.result.phase ≡ answer_in u.seat.spare begins =
-    ap (λ (s : Seat). answer_in s.spare s.phase) last_is ∙ ap (λ (ph : Phase). answer_in u.seat.spare (phase_begun begins ph)) c.requires.idle in
+    ap (λ (s : Seat). answer_in s.spare s.phase) last_is ∙ ap (λ (ph : Phase). answer_in u.seat.spare (phase_begun begins [] ph)) c.requires.idle in
     record {
       own = c.step.ensures.own;
       seat_is = c.seat-seat.ensures.same;

@@ -9,7 +9,7 @@ pub returns-in_err-list : goal.returns-in_err-list
 returns-in_err-list c = let p = err_from_is_err_and c.from_residual.result c.from_residual.ensures.1 in
     let before = c.args.self.now in
     let unmarked : get_or before.made c.args.number false ≡ false = ap (λ (xs : List Bool). get_or xs c.args.number false) (sym c.as_slice.ensures) ∙ c.if-as_slice-number.false in
-    rw (p.1, p.2) (passes_most before c.args.constants.now c.args.operands.now c.args.number c.as_slice-2.result.now c.in_err-list.field-0.0 c.requires.kept c.requires.within unmarked c.as_slice-2.ensures c.in_err-list.ensures)
+    rw (p.1, p.2) (passes_most _ _ before c.args.constants.now c.args.operands.now c.args.number c.as_slice-2.result.now c.in_err-list.field-0.0 c.requires.kept c.requires.within unmarked c.as_slice-2.ensures c.in_err-list.ensures)
 
 pub returns : goal.returns
 returns c =

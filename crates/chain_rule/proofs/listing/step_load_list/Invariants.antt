@@ -1,0 +1,6 @@
+-- The call begins in the phase that was computed.
+use Rattle.std.proofs.Common.{[]}
+use Rattle.chain_rule.proofs.listing.step_load_list.Given as goal
+
+abbrev pub ghosts-advance : goal.ghosts-advance
+ghosts-advance g a = record { begins = a.begins.now; told = [] }

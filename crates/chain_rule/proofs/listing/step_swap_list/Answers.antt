@@ -1,0 +1,16 @@
+-- An exchange that found a list makes its entry.
+use Rattle.std.proofs.Common.{ap}
+use Rattle.chain_rule.specs.Passes.{Board}
+use Rattle.chain_rule.proofs.Finding.{found_took}
+use Rattle.chain_rule.proofs.ListFinding.{swap_loses, swapping_finds}
+use Rattle.chain_rule.proofs.listing.step_swap_list.Goals as goal
+
+pub returns-clause-lost : goal.returns-clause-lost
+returns-clause-lost g c = λ lost.
+    let key = c.args.table.now.setting in
+    let u = c.args.pass.now.view in
+    let w = c.advance-found.new.pass.view in
+    let t = c.advance-found.ensures.turned in
+    swap_loses g.M.Meaning.lawful g.M.Meaning.allowed g.M.Meaning.stands key u w c.advance-found.result c.args.number
+    (found_took g.M.Meaning.lawful g.M.Meaning.allowed g.M.Meaning.stands key c.table.inside.desk.setting u w t.0 c.advance-found.result (ap (λ (b : Board g.row.M.Denot). b.setting) c.table.view_is) t.1 t.2
+    (swapping_finds c.args.number u.seat.phase c.requires.next)) c.requires.next lost

@@ -1,5 +1,0 @@
-use Rattle.pepa_reader.specs.Grammar.{Named}
-use Rattle.pepa_reader.proofs.terminal.Text.word.Goals as goal
-
-pub returns-in-Some : goal.returns-in-Some
-returns-in-Some c = (Named c.in-Some.ensures.0, c.in-Some.ensures.1)

@@ -1,7 +1,0 @@
-use Rattle.std.proofs.Common.{take}
-use Rattle.pepa_resolver.specs.Marking.{IsMarking}
-use Rattle.pepa_resolver.proofs.cycles.mark.Given as goal
-
-abbrev pub invariant-loop-target : goal.invariant-loop-target
-invariant-loop-target l =
-    IsMarking (take l.target-index l.targets) l.initial.seen l.initial.queue l.seen l.queue

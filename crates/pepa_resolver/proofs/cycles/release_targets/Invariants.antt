@@ -1,9 +1,0 @@
-use Rattle.std.proofs.Common.{◌≡◌, length}
-use Rattle.pepa_resolver.specs.Graphs.{AreBelow}
-use Rattle.pepa_resolver.proofs.cycles.release_targets.Given as goal
-
-abbrev pub invariant-loop-target : goal.invariant-loop-target
-invariant-loop-target l = record {
-  counts : length l.counts ≡ length l.initial.counts;
-  queue : AreBelow (length l.initial.counts) l.queue;
-}

@@ -1,5 +1,0 @@
-use Rattle.pepa_resolver.proofs.OneRefusal.{refused_or_structured}
-use Rattle.pepa_resolver.proofs.laws.refused_or_structured.Goals as goal
-
-pub returns : goal.returns
-returns c = refused_or_structured

@@ -1,0 +1,4 @@
+pub mod RateText
+pub mod ComponentText
+pub mod SetText
+pub mod SystemText

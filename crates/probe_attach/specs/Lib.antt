@@ -1,0 +1,2 @@
+pub mod FirstStates
+pub mod Systems

@@ -1,4 +1,0 @@
-use Rattle.sim_command.proofs.first_state.+expanded_term.Given as goal
-
-abbrev pub decreases-expanded_term : goal.decreases-expanded_term
-decreases-expanded_term l = l.depth

@@ -1,9 +1,0 @@
-use Rattle.std.proofs.Common.{◌^◌}
-use Rattle.sim_command.proofs.SystemLeaves.{load, CountsSoFar}
-use Rattle.sim_command.proofs.system_size.system_leaves.Given as goal
-
-abbrev pub invariant-loop-constant : goal.invariant-loop-constant
-invariant-loop-constant l = CountsSoFar l.model (2 ^ 21) l.count l.constants
-
-abbrev pub decreases-loop-constant : goal.decreases-loop-constant
-decreases-loop-constant l = load l.model.bodies (2 ^ 21) l.constants

@@ -1,0 +1,4 @@
+pub mod Orders
+pub mod Signals
+pub mod Jumps
+pub mod Runs

@@ -1,0 +1,4 @@
+pub mod FaultLine
+pub mod StepsText
+pub mod TransitionsText
+pub mod CheckText

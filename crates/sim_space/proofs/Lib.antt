@@ -1,0 +1,2 @@
+pub mod PassiveRates
+pub mod WeightSums

@@ -1,0 +1,4 @@
+pub mod Stops
+pub mod Choices
+pub mod LoadedLists
+pub mod SpaceAnswers

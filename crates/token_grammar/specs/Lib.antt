@@ -1,0 +1,4 @@
+pub mod Terminals
+pub mod Languages
+pub mod Cursors
+pub mod Machines
