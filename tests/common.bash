@@ -5,7 +5,7 @@ cd "$(dirname -- "${BASH_SOURCE[0]}")/.." || exit 1
 
 passes=0
 failures=0
-# The status of the run that `told` looks at.
+# The status of the run that `compare_run` looks at.
 ended=0
 
 # A folder for what the program writes; it goes when the check ends.
@@ -31,7 +31,7 @@ finish() {
     exit
 }
 
-# Builds the program once, so that no case below has to, and lets standard error tell how far that is.
+# Builds the program once, so that no case below has to; standard error reports the build.
 build_program() {
     bin/pepaprobe steps <examples/two-ways.pepa >/dev/null
     case $? in
@@ -42,9 +42,9 @@ build_program() {
     esac
 }
 
-# As told TITLE STATUS OUT ERR: compares the run that ended with the status $ended, and wrote $work/out and $work/err,
+# As compare_run TITLE STATUS OUT ERR: compares the run that ended with the status $ended, and wrote $work/out and $work/err,
 # with the status and the two files that are wanted. A crash has a status of 128 or more, which nothing wants.
-told() {
+compare_run() {
     if [ "$ended" -ne "$2" ]; then
         failed "$1: status $ended in place of $2; on standard error: $(head -c 200 "$work/err")"
     elif ! cmp -s "$3" "$work/out"; then
@@ -57,17 +57,35 @@ told() {
     fi
 }
 
-# As check_by_python SCRIPT COMPLAINT: the whole check is that tests/SCRIPT, given the program and the examples, finds nothing wrong.
+# As check_by_python SCRIPT COMPLAINT [ARGUMENT..]: the whole check is that tests/SCRIPT finds nothing wrong. Without arguments it gets the
+# program and the examples.
 check_by_python() {
+    script=$1 complaint=$2
+    shift 2
+    [ $# -gt 0 ] || set -- crates/pepaprobe_main/out/pepaprobe_main examples/*.pepa
     if ! command -v python3 >/dev/null 2>&1; then
         skipped "python3 isn't installed"
         exit 0
     fi
     build_program
-    if python3 "tests/$1" crates/pepaprobe_main/out/pepaprobe_main examples/*.pepa; then
+    if python3 "tests/$script" "$@"; then
         passed
     else
-        failed "$2"
+        failed "$complaint"
+    fi
+    finish
+}
+
+# As rows_by_python SCRIPT FILE COMPLAINT: the whole check is that the rows of FILE, a crate's tests, are those of tests/SCRIPT.
+rows_by_python() {
+    if ! command -v python3 >/dev/null 2>&1; then
+        skipped "python3 isn't installed"
+        exit 0
+    fi
+    if python3 "tests/$1" "$2"; then
+        passed
+    else
+        failed "$3"
     fi
     finish
 }

@@ -147,7 +147,7 @@ def draws(seed, stream):
 
 
 def rows():
-    """Returns all rows of numbers, each with the seed and the stream in front."""
+    """Returns all rows of numbers, each after its seed and its stream."""
     for seed in SEEDS:
         for stream in STREAMS:
             yield [seed, stream] + [number(seed, stream, k) for k in [0, 1, 2, 3] + LATER]
@@ -172,4 +172,5 @@ def main():
     print(f"rows as wanted: {len(found)}")
 
 
-main()
+if __name__ == "__main__":
+    main()

@@ -25,18 +25,18 @@ for model in examples/*.pepa; do
     fi
     bin/pepaprobe steps <"$model" >"$work/out" 2>"$work/err"
     ended=$?
-    told "$model" "$wanted" "$wanted_out" "$wanted_err"
+    compare_run "$model" "$wanted" "$wanted_out" "$wanted_err"
 
     if [ -f "$base.check" ]; then
         bin/pepaprobe check <"$model" >"$work/out" 2>"$work/err"
         ended=$?
-        told "check of $model" 0 "$base.check" "$work/nothing"
+        compare_run "check of $model" 0 "$base.check" "$work/nothing"
     fi
     if [ -f "$base.print" ]; then
         for text in "$model" "$base.print"; do
             bin/pepaprobe print <"$text" >"$work/out" 2>"$work/err"
             ended=$?
-            told "print of $text" 0 "$base.print" "$work/nothing"
+            compare_run "print of $text" 0 "$base.print" "$work/nothing"
         done
     fi
 done

@@ -17,7 +17,7 @@ FLAWS = [*RATES, "unknown rate", "rates shuffled", "unknown constant", "twice", 
 # Choices of an active and a passive rate; the first two are one expression.
 MIXED = ["( ( b , 1 ) . P + ( b , T ) . P )", "( ( b , 1.0 ) . P + ( b , infty ) . P )",
          "( ( tau , 2 * T ) . P + ( c , 1 ) . P + ( tau , 3 ) . P )", "( ( c , T ) . P + ( ( b , 1 ) . P + ( c , 2 ) . P ) )"]
-# Pieces that are put into a text; those that begin with P are put in place of a constant, those that end with ; behind a line.
+# Pieces that are put into a text; those that begin with P are put in place of a constant, those that end with ; after a line.
 PIECES = [
     ["&", "_a", "#", "\x80", "\x00", "~", "&&&", "\x7f", "\v"],
     ["1.", "1x", "1.5_", "1" * 31, "0" * 30 + ".5", "1" * 30, "1." + "0" * 29],
@@ -25,7 +25,11 @@ PIECES = [
     ["/*", "/*/", "/*//", "/**", "// /*"],
     ["P [", "P [ 3 ]", "P < a > [", "["],
     ["P < *", "P < * > P", "P < /* c */ * >", "( P < // c\n *"],
-    ["probe a ;", "probe ;", "probe = 1 ;", "probe P :: a ; probe b ;"],
+    ["probe a ;", "probe ;", "probe = 1 ;", "probe P :: a ; probe b ;", "probe ( a | b ) { 1 , 2 } / c * , d + ? 2 : l ;",
+     "probe P :: { P > 1 && ! ( Q == 2 || Q <= 3 ) } a : start , b : stop ;", "probe { ! ! P >= 1 } { Q != 0 } probe / probe ;"],
+    ["probe P ;", "probe P : a ;", "probe a a ;", "probe a { 1 } ;", "probe { P } a ;", "probe { P > 1 } ;", "probe ( a ;", "probe a ) ;",
+     "probe { P < * 1 } a ;", "probe a [ 1 ] ;", "probe tau ;", "probe a : tau ;", "probe a / { b } ;", "probe :: a ;", "probe P = Q ;",
+     "probe { P > r } a ;", "probe { P > 1 && } a ;", "probe a , ;", "probe a | | b ;", "probe a * * b ;", "probe { a > 1 } b ;"],
     ["= 1 ;", "p = 1 ;", "T = P ;", "tau = 1 ;", "infty = 1 ;", "Z = P ;", "a ;", "z = z ;", "z = r ; r = 2 ;"],
     ["probe", "( )", "<=", "==", "infty", "T", "tau", "=", "/ { a }", "|| P", "+ P", "< a > P", "( a , 1 ) . P", "{", ")", "(",
      ".", ",", "1", "r", "P", "a", "::", "?", "!", "<", ">", "|", "&&", ":", "// c", ";", "*", "/ {", "< > P", "< tau > P",
@@ -38,7 +42,7 @@ PASSIVE = ("p", "c")
 
 
 class Maker:
-    """Makes the pieces of a random model, in which the flaws that it draws stand here and there."""
+    """Makes the pieces of a random model, with the flaws that it draws here and there."""
 
     def __init__(self, chance: random.Random):
         self.chance = chance
@@ -71,7 +75,7 @@ class Maker:
         return ["(", *both, ")"] if self.chance.random() < 0.4 else both
 
     def component(self, depth: int, unguarded) -> "list[str]":
-        """A sequential process; the constants that are given may stand in it without an activity in front."""
+        """A sequential process; the constants that are given may be in it without an activity before them."""
         if self.odd("structure", 0.25):
             inner = ["(", *self.system(2, self.plain), ")"]
             return self.one_of([inner, "( a , 1 ) .".split() + inner], [[name] for name in self.compound])
@@ -118,7 +122,7 @@ class Maker:
         return left + sign + self.bracketed(self.system(depth - 1, names))
 
     def lines(self) -> "list[list[str]]":
-        """Rate lines use those above them, and stand anywhere between the others."""
+        """Rate lines use those above them, and are anywhere between the others."""
         rates = [[name, "=", *self.rate(self.rates[:i], name in PASSIVE), ";"] for i, name in enumerate(self.rates)]
         lines = [[name, "=", *self.component(2, self.plain[:i]), ";"] for i, name in enumerate(self.plain)]
         for i, name in enumerate(self.compound):

@@ -1,9 +1,9 @@
 """Compares `check` and `print` with what docs/LANGUAGE.md says, written down a second time: faults.py PROGRAM MODEL..
 
-Which fault of a text comes first and where, what a model has and what its normal form is stand here as recursions over names
+Which fault of a text comes first and where, what a model has and what its normal form is are recursions over names here
 and Python's fractions, without numbers for names and without the program's order of work. The texts are those that are given
 and random ones (fault_texts.py), from fixed seeds, for half a minute, or until each fault was met once. The first answer that
-differs is told with its text, and ends with a status of 1; so does a fault's name that no text had.
+differs is printed with its text, and ends with a status of 1; so does a fault's name that no text had.
 """
 import operator
 import re
@@ -26,6 +26,9 @@ LEXEME = re.compile(rb"(?P<blank>[\t\n\r ]+|//[^\n]*)|(?P<comment>/\*)|(?P<name>
                     rb"|(?P<number>[0-9]+(?:\.[0-9]*)?)|(?P<sign><=|>=|==|!=|&&|\|\||::|[=;(),.+\-*/<>!|{}\[\]:?])")
 OPERATORS = {"+": operator.add, "-": operator.sub, "*": operator.mul, "/": operator.truediv}
 WORDS = {"infty": "top", "T": "top", "tau": "tau"}
+# What may stand behind a part of a probe's expression, by its first token.
+SUFFIXES = {"*": ["*"], "+": ["+"], "?": ["?"], "number": ["number"], ":": [":", "small"], "/": ["/", "small"],
+            "{": ["{", "number", ",", "number", "}"]}
 NAMES = ["bad byte", "bad number", "long name", "open comment", "too deep", "array", "wildcard", "unsupported", "expected",
          "too many lines", "defined twice", "unknown name", "tau in set", "bad rate by a number", "bad rate by a result",
          "bad rate by a weight", "bad rate by a passive name", "not sequential", "model cycle", "unguarded",
@@ -33,7 +36,7 @@ NAMES = ["bad byte", "bad number", "long name", "open comment", "too deep", "arr
 
 
 class Fault(Exception):
-    """A name, the byte where it is told, and what tells apart the causes of one name."""
+    """A name, the byte where it is reported, and what distinguishes the causes of one name."""
 
     def __init__(self, name: str, at: int, cause: str = ""):
         super().__init__(name, at, cause)
@@ -82,7 +85,7 @@ class Reader:
 
     def __init__(self, tokens: "list[Token]"):
         self.tokens, self.here, self.begin = tokens + tokens[-1:], 0, 0
-        self.rates, self.processes = [], []
+        self.rates, self.processes, self.probes = [], [], []
 
     def kind(self) -> str:
         token = self.tokens[self.here]
@@ -105,7 +108,9 @@ class Reader:
             self.begin = self.here
             first, second = self.tokens[self.here:self.here + 2]
             if first.kind == "small" and first.text == "probe" and second.kind != "=":
-                raise Fault("unsupported", first.at)
+                self.probes.append(first)
+                self.probe()
+                continue
             if first.kind != "small" and (first.kind, second.kind) != ("capital", "="):
                 break
             name = self.take("small", "capital")
@@ -121,7 +126,7 @@ class Reader:
         return system
 
     def rate(self):
-        """A number and `*` begin a weight where `infty` or `T` stands behind them, and else a product."""
+        """A number and `*` begin a weight where `infty` or `T` follows them, and else a product."""
         if [token.kind for token in self.tokens[self.here:self.here + 3]] == ["number", "*", "top"]:
             weight = self.take("number")
             self.take("*")
@@ -149,6 +154,49 @@ class Reader:
         inner = self.sum()
         self.take(")")
         return ("bracket", inner)
+
+    def probe(self):
+        """A probe line; nothing is kept of its expression."""
+        self.take("small")
+        if self.kind() == "capital":
+            self.take("capital")
+            self.take("::")
+        self.alternatives()
+        self.take(";")
+
+    def separated(self, sign: str, part) -> None:
+        part()
+        while self.kind() == sign:
+            self.take(sign)
+            part()
+
+    def alternatives(self) -> None:
+        self.separated("|", lambda: self.separated(",", self.guarded))
+
+    def guarded(self) -> None:
+        while self.kind() == "{":
+            self.take("{")
+            self.guard()
+            self.take("}")
+        if self.take("small", "(").kind == "(":
+            self.alternatives()
+            self.take(")")
+        while self.kind() in SUFFIXES:
+            for kind in SUFFIXES[self.kind()]:
+                self.take(kind)
+
+    def guard(self) -> None:
+        self.separated("||", lambda: self.separated("&&", self.negation))
+
+    def negation(self) -> None:
+        while self.kind() == "!":
+            self.take("!")
+        if self.take("capital", "(").kind == "(":
+            self.guard()
+            self.take(")")
+        else:
+            self.take("<", "<=", ">", ">=", "==", "!=")
+            self.take("number")
 
     def process(self):
         left = self.choice()
@@ -228,7 +276,7 @@ def refuse(name: str, places, cause: str = "") -> None:
 
 
 def reached(start: str, edges) -> set:
-    """What is behind a start, which is itself among them only where there is a way back."""
+    """What follows a start, which is itself among them only where there is a way back."""
     found, waiting = set(), [start]
     while waiting:
         new = edges.get(waiting.pop(), set()) - found
@@ -243,6 +291,7 @@ class Model:
     def __init__(self, text: bytes):
         reader = Reader(read_tokens(text))
         self.system = reader.file()
+        refuse("unsupported", [first.at for first in reader.probes])
         self.rate_lines, self.lines = reader.rates, reader.processes
         self.processes = [body for _, body in self.lines] + [self.system]
         self.bodies = {name.text: body for name, body in self.lines}
@@ -276,21 +325,21 @@ class Model:
         refuse("tau in set", [word.at for words in self.sets for word in words if word.kind == "tau"])
 
     def check_rates(self) -> None:
-        """Each rate tells its first fault alone; of these that of the rate that begins first is told.
+        """Each rate has its first fault alone; of these that of the rate that begins first is reported.
 
         A rate that is refused gives no value, and what needs one that isn't there isn't judged.
         """
-        told = []
+        reported = []
         for name, rate in self.rate_lines:
             faults = []
             self.named[name.text] = self.value(rate, faults)
-            told += [(name.at, fault) for fault in faults[:1]]
+            reported += [(name.at, fault) for fault in faults[:1]]
         for part in self.prefixes:
             faults = []
             self.rates[part[1]] = self.value(part[3], faults)
-            told += [(part[1], fault) for fault in faults[:1]]
-        if told:
-            raise min(told, key=lambda it: it[0])[1]
+            reported += [(part[1], fault) for fault in faults[:1]]
+        if reported:
+            raise min(reported, key=lambda it: it[0])[1]
 
     def value(self, rate, faults, alone: bool = True):
         """A kind and a fraction, or None; what is refused on the way is added to the faults, in the order of evaluation."""

@@ -2,7 +2,7 @@
 
 Each model's bytes and pieces are changed at random, from fixed seeds, for a minute at most. Wanted is: a status of 0 or 3, at 3
 one line `model L:C name` on standard error, at 0 an answer; and the printed text has the same counts and is printed as the same
-bytes again. The first answer that isn't as wanted is told with its text, and ends with a status of 1.
+bytes again. The first answer that isn't as wanted is printed with its text, and ends with a status of 1.
 """
 import random
 import re

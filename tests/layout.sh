@@ -11,7 +11,7 @@ defined() {
     find crates -path '*/specs/*.antt' -not -path '*/out/*' -exec awk '
         {
             is_definition = 0
-            for (i = 1; $i == "pub" || $i == "abbrev" || $i == "record" || $i == "data"; i++)
+            for (i = 1; $i == "pub" || $i == "abbrev" || $i == "record" || $i == "data" || $i == "unfoldable"; i++)
                 if ($i != "pub") is_definition = 1
             if (is_definition && $i ~ /^[A-Za-z]/ && $i != "mutual") print $i
         }' {} +

@@ -396,9 +396,9 @@ def heard(e, events):
 
 
 def hearing_text(e, events):
-    told = " ".join(f"{letter}:{''.join(str(count) for count in counts)}" for letter, counts in events)
+    heard_text = " ".join(f"{letter}:{''.join(str(count) for count in counts)}" for letter, counts in events)
     answers = " ".join("-" if labels is None else f"+{mask(labels)}" for labels in heard(e, events))
-    return f"{write(e)} = {told} = {answers}"
+    return f"{write(e)} = {heard_text} = {answers}"
 
 
 # ---- the tables

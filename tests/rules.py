@@ -1,8 +1,8 @@
 """Compares `steps` with Hillston's rules, written down a second time: rules.py PROGRAM MODEL..
 
-The rules stand here as recursions over whole lists of Python's fractions, without numbers for names, without tables and without
+The rules are written here as recursions over whole lists of Python's fractions, without numbers for names, without tables and without
 the program's order of work. The models are those that are given and random ones, from fixed seeds, for half a minute at most. Of
-each the normal form is taken, which `print` gives. The first answer that differs is told with its text, and ends with a status
+each the normal form is taken, which `print` gives. The first answer that differs is printed with its text, and ends with a status
 of 1.
 """
 import math

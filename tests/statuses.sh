@@ -26,7 +26,7 @@ refused() {
     shift 4
     bin/pepaprobe "$@" <"$input" >"$work/out" 2>"$work/err"
     ended=$?
-    told "$title" "$status" "$work/nothing" "$work/$line"
+    compare_run "$title" "$status" "$work/nothing" "$work/$line"
 }
 
 refused 'no words' 2 usage "$model"
@@ -57,9 +57,9 @@ done
 
 bin/pepaprobe steps <"$work/long_model" >"$work/out" 2>"$work/err"
 ended=$?
-told 'a model of 2^20 bytes' 0 "${model%.pepa}.steps" "$work/nothing"
+compare_run 'a model of 2^20 bytes' 0 "${model%.pepa}.steps" "$work/nothing"
 
-# A long chain of constants: each of 500 stands for the one before it, with the empty set hidden 680 times. These are 340,000
+# A long chain of constants: the right side of each of 500 is the one before it, with the empty set hidden 680 times. These are 340,000
 # hidings on each side.
 hidden=$(printf '/{}%.0s' {1..680})
 {
@@ -77,24 +77,24 @@ while IFS= read -r -n 1 byte || [ -n "$byte" ]; do
     printf '%s' "${byte:-$'\n'}"
 done <"$model" | bin/pepaprobe steps >"$work/out" 2>"$work/err"
 ended=$?
-told 'a model in pieces' 0 "${model%.pepa}.steps" "$work/nothing"
+compare_run 'a model in pieces' 0 "${model%.pepa}.steps" "$work/nothing"
 
 # A folder opens, but it can't be read.
 refused 'a folder as standard input' 4 read_fault . steps
 refused 'check: a folder as standard input' 4 read_fault . check
 bin/pepaprobe steps <&- >"$work/out" 2>"$work/err"
 ended=$?
-told 'standard input closed' 4 "$work/nothing" "$work/read_fault"
+compare_run 'standard input closed' 4 "$work/nothing" "$work/read_fault"
 
 : >"$work/out"
 bin/pepaprobe steps <"$model" >&- 2>"$work/err"
 ended=$?
-told 'standard output closed' 5 "$work/nothing" "$work/write_fault"
+compare_run 'standard output closed' 5 "$work/nothing" "$work/write_fault"
 
 if [ -c /dev/full ]; then
     bin/pepaprobe steps <"$model" >/dev/full 2>"$work/err"
     ended=$?
-    told 'a full disk' 5 "$work/nothing" "$work/write_fault"
+    compare_run 'a full disk' 5 "$work/nothing" "$work/write_fault"
 else
     skipped 'a full disk: this system has no /dev/full'
 fi

@@ -1,4 +1,5 @@
 pub mod Views
+pub mod MadeEntries
 pub mod Turning
 pub mod Operations
 pub mod Passing

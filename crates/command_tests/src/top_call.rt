@@ -355,6 +355,13 @@ fn texts_without_a_model(rt: HostRuntime) -> Result<(), Fail> {
         // The tokens' fault goes before the grammar's, which stands in front of it, and this before the check's.
         ("P = ; Q %", "model 1:9 bad byte\n"),
         ("P = (a,0).P; P P", "model 1:16 expected\n"),
+        // Both go before a probe line, and this before the other checks.
+        ("probe a; P %", "model 1:12 bad byte\n"),
+        ("probe a; P P", "model 1:12 expected\n"),
+        (
+            "P = (a,0).Q; probe R :: b; probe c; X",
+            "model 1:14 unsupported\n",
+        ),
     ];
     for (input, line) in table {
         for word in ["steps", "check"] {

@@ -4,12 +4,10 @@
 ghost use Rattle.pepa_model.specs.Terms.{IsTermOf};
 ghost use Rattle.pepa_steps.specs.Traces.{AreFor, HasList};
 
-use pepa_checks::check;
-use pepa_lexer::tokens;
 use pepa_model::{Model, Term};
 use pepa_rates::{Frac, Rate};
-use pepa_reader::read_file;
 use pepa_steps::{Buffers, Entry, is_term_of, load, target};
+use small_models::model_of;
 use std::alloc::{AllocError, Global};
 use std::test::Fail;
 
@@ -52,15 +50,6 @@ fn rows_hold(alloc: Global, text: &[u8]) -> bool {
         Some(model) => all_hold(alloc, &model),
         None => false,
     }
-}
-
-fn model_of(alloc: Global, text: &[u8]) -> Option<Model> {
-    if text.len() > 1 << 20 {
-        return None;
-    }
-    let list = tokens(alloc, text).ok()?;
-    let tree = read_file(alloc, list.as_slice(), text).ok()?;
-    check(alloc, &tree, list.as_slice(), text).ok()
 }
 
 /// Whether the rows hold, one after the other in the same buffers.

@@ -7,13 +7,13 @@ use Rattle.pepa_lexer.specs.declared.kinds.Token.{Token}
 use Rattle.pepa_lexer.specs.TokenLists.{IsTokens}
 use Rattle.pepa_reader.specs.declared.trees.FileTree.{FileTree}
 use Rattle.token_grammar.specs.Terminals.{terminals, name_at}
-use Rattle.pepa_reader.specs.Trees.{FileNode, file_node_of}
+use Rattle.pepa_reader.specs.Trees.{FileNode, probe_line_of, file_node_of}
 use Rattle.pepa_reader.specs.FileAnswers.{IsFileTree}
 use Rattle.pepa_model.specs.Expression.{Expression}
 use Rattle.pepa_model.specs.PepaModel.{PepaModel, IsModel}
 use Rattle.pepa_checks.specs.declared.structured_file.StructuredFile.{StructuredFile}
 use Rattle.pepa_checks.specs.declared.cause.CheckCause.{CheckCause}
-use Rattle.pepa_checks.specs.declared.cause.CheckCause.TheVariants.{Twice, UnknownName, TauInSet, BadRate, NotSequential, ModelCycle, Unguarded, TooMany, MixedChoice}
+use Rattle.pepa_checks.specs.declared.cause.CheckCause.TheVariants.{Unsupported, Twice, UnknownName, TauInSet, BadRate, NotSequential, ModelCycle, Unguarded, TooMany, MixedChoice}
 use Rattle.pepa_checks.specs.declared.cause.Refusal.{Refusal}
 use Rattle.fault_ends.specs.declared.end.End.{End}
 use Rattle.fault_ends.specs.declared.end.End.TheVariants.{Fault, Memory}
@@ -36,7 +36,7 @@ use Rattle.pepa_checks.specs.MadeModels.{made_of, MakesModel}
 use Rattle.pepa_checks.specs.MixedLists.{activities}
 use Rattle.pepa_checks.specs.FileViews.{IsOrderedFile, IsCountedFile}
 use Rattle.pepa_checks.specs.FileEnds.{IsLateRefusal}
-use Rattle.pepa_checks.specs.CheckedFiles.{Sound, IsOverLimit, IsModelOf, IsRefusedFor}
+use Rattle.pepa_checks.specs.CheckedFiles.{Sound, IsOverLimit, IsModelOf, IsAtFaultFor}
 use Rattle.pepa_checks.proofs.BuiltFiles.{sound_built}
 use Rattle.pepa_checks.proofs.Counted.{EachOpens}
 use Rattle.pepa_checks.proofs.Countings.{each_opens}
@@ -50,13 +50,13 @@ use Rattle.pepa_checks.proofs.Stops.{stopped_within}
 -- ---- refusals
 
 -- what stops a file up to its structure refuses it
-pub stopped_refuses : (input : List ℕ) (tokens : List Token) (file : FileNode) (cause : CheckCause) (i : ℕ) → IsStoppedFor input tokens file cause i → IsRefusedFor input tokens file cause i
+pub stopped_refuses : (input : List ℕ) (tokens : List Token) (file : FileNode) (cause : CheckCause) (i : ℕ) → IsStoppedFor input tokens file cause i → IsAtFaultFor input tokens file cause i
 stopped_refuses input tokens file TooMany i h = inl h
 stopped_refuses input tokens file MixedChoice i h = elim h [ ]
 stopped_refuses input tokens file _ i h = h
 
 -- the index of a refusal is that of a token
-pub at_a_token : (input : List ℕ) (tokens : List Token) (tree : FileTree) (cause : CheckCause) (i : ℕ) → IsFileTree (terminals input tokens) tree → IsRefusedFor input tokens (file_node_of tree) cause i → i < length tokens
+pub at_a_token : (input : List ℕ) (tokens : List Token) (tree : FileTree) (cause : CheckCause) (i : ℕ) → IsFileTree (terminals input tokens) tree → IsAtFaultFor input tokens (file_node_of tree) cause i → i < length tokens
 at_a_token input tokens tree TooMany i is (inl h) = stopped_within input tokens tree TooMany i is h
 at_a_token input tokens tree TooMany i is (inr (sound, over, at)) =
     subst (λ (j : ℕ). j < length tokens) (sym at) (system_within input tokens tree sound.values sound.bodies sound.system is sound.numbered)
@@ -70,9 +70,10 @@ at_a_token input tokens tree BadRate i is h = stopped_within input tokens tree B
 at_a_token input tokens tree NotSequential i is h = stopped_within input tokens tree NotSequential i is h
 at_a_token input tokens tree ModelCycle i is h = stopped_within input tokens tree ModelCycle i is h
 at_a_token input tokens tree Unguarded i is h = stopped_within input tokens tree Unguarded i is h
+at_a_token input tokens tree Unsupported i is h = elim h [ ]
 
 -- an end up to the structure is an end of the check
-pub stopped_end : {T U : Type 0} (P : T → Type 0) (Q : U → Type 0) (input : List ℕ) (tokens : List Token) (file : FileNode) (end : End Refusal) → OkOrFault (Err end) P (λ refusal. IsStoppedFor input tokens file refusal.cause refusal.at) → OkOrFault (Err end) Q (λ refusal. IsRefusedFor input tokens file refusal.cause refusal.at)
+pub stopped_end : {T U : Type 0} (P : T → Type 0) (Q : U → Type 0) (input : List ℕ) (tokens : List Token) (file : FileNode) (end : End Refusal) → OkOrFault (Err end) P (λ refusal. IsStoppedFor input tokens file refusal.cause refusal.at) → OkOrFault (Err end) Q (λ refusal. IsAtFaultFor input tokens file refusal.cause refusal.at)
 stopped_end P Q input tokens file (Fault refusal) h = stopped_refuses input tokens file refusal.cause refusal.at h
 stopped_end P Q input tokens file Memory h = tt
 
@@ -134,12 +135,12 @@ module _ (input : List ℕ) (tokens : List Token) (tree : FileTree) (are : IsTok
   within apart passes = apart (subst (λ (l : List (List ℕ)). PassesLimit l outline) (sym is.resolved.actions_are) passes)
 
   -- the refusal of a file that is counted and judged
-  pub refuses : (cause : CheckCause) (i : ℕ) → IsLateRefusal found cause i → IsRefusedFor input tokens (file_node_of tree) cause i
+  pub refuses : (cause : CheckCause) (i : ℕ) → IsLateRefusal found cause i → IsAtFaultFor input tokens (file_node_of tree) cause i
   refuses TooMany i h = inr (sound, subst (λ (l : List (List ℕ)). PassesLimit l outline) is.resolved.actions_are h.0, h.1)
   refuses MixedChoice i h = (sound, within h.0, h.1)
   refuses _ i h = elim h [ ]
 
-  pub late_end : {T U : Type 0} (P : T → Type 0) (Q : U → Type 0) (end : End Refusal) → OkOrFault (Err end) P (λ refusal. IsLateRefusal found refusal.cause refusal.at) → OkOrFault (Err end) Q (λ refusal. IsRefusedFor input tokens (file_node_of tree) refusal.cause refusal.at)
+  pub late_end : {T U : Type 0} (P : T → Type 0) (Q : U → Type 0) (end : End Refusal) → OkOrFault (Err end) P (λ refusal. IsLateRefusal found refusal.cause refusal.at) → OkOrFault (Err end) Q (λ refusal. IsAtFaultFor input tokens (file_node_of tree) refusal.cause refusal.at)
   late_end P Q (Fault refusal) h = refuses refusal.cause refusal.at h
   late_end P Q Memory h = tt
 
@@ -175,8 +176,9 @@ module _ (input : List ℕ) (tokens : List Token) (tree : FileTree) (are : IsTok
       is_model = subst IsModel (sym same) is_sound;
     }
 
-    pub read : (m : PepaModel) → m ≡ made_of found counted → IsModelOf input tokens (file_node_of tree) m
-    read m e = subst (IsModelOf input tokens (file_node_of tree)) (sym (e ∙ same)) (record {
+    pub read : (m : PepaModel) → tree.probes ≡ [] → m ≡ made_of found counted → IsModelOf input tokens (file_node_of tree) m
+    read m none e = subst (IsModelOf input tokens (file_node_of tree)) (sym (e ∙ same)) (record {
+      no_probes = ap (map probe_line_of) none;
       sound = sound;
       within = within counts.within;
       unmixed = unmixed;

@@ -12,6 +12,7 @@ pub mod TextHeights
 pub mod OneTree
 pub mod PlainProcesses
 pub mod Openings
+pub mod OrderedViews
 pub mod Expansions
 pub mod BuiltFiles
 pub mod LeafClosure
@@ -28,6 +29,7 @@ pub mod SoundLists
 pub mod Counted
 pub mod Countings
 pub mod ListReads
+pub mod NodeEquality
 pub mod NodeSteps
 pub mod WalkSteps
 pub mod FileWalks
@@ -38,6 +40,7 @@ pub mod LeafLoops
 pub mod LeafAnswers
 pub mod Judgements
 pub mod OneRefusal
+pub mod ProbeLines
 pub mod WrittenRates
 pub mod TextNames
 pub mod WordIndices
@@ -47,3 +50,11 @@ pub mod Sequentials
 pub mod EdgeLists
 pub mod Structured
 pub mod Stops
+pub mod Unavoidable
+pub mod SomeOrders
+pub mod SomeNumbers
+pub mod SomeLeaves
+pub mod SomeModels
+pub mod SomeTokens
+pub mod SomeTrees
+pub mod SomeFiles

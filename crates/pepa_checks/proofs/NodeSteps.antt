@@ -10,8 +10,7 @@ use Rattle.pepa_checks.specs.declared.nodes.RateKey.{RateKey}
 use Rattle.pepa_checks.specs.declared.nodes.RateKey.TheVariants.{Active, Passive}
 use Rattle.pepa_checks.specs.declared.nodes.Node.{Node}
 use Rattle.pepa_checks.specs.declared.nodes.Node.TheVariants.{Constant, Activity, Choice}
-use Rattle.pepa_checks.specs.NodeTests.{same_node}
-use Rattle.pepa_checks.specs.NodeLaws.{node_same, node_decides}
+use Rattle.pepa_checks.proofs.NodeEquality.{same_node, node_same, node_decides}
 use Rattle.pepa_checks.specs.NodeTables.{rate_by, built, built_on, expressions_by, Builds, AreNodes, IsNodeTable, ExtendsNodes, Has}
 use Rattle.pepa_checks.proofs.ListReads.{true_or_false, read_more, read_last, read_cases, read_within, read_or, read_there, any_read}
 

@@ -12,7 +12,7 @@ use Rattle.pepa_model.specs.Derivation.{Among}
 use Rattle.pepa_model.specs.Opened.{Opened}
 use Rattle.pepa_model.specs.PepaModel.{PepaModel, IsMixedAt}
 use Rattle.pepa_checks.specs.declared.cause.CheckCause.{CheckCause}
-use Rattle.pepa_checks.specs.declared.cause.CheckCause.TheVariants.{Twice, UnknownName, TauInSet, BadRate, NotSequential, ModelCycle, Unguarded, TooMany, MixedChoice}
+use Rattle.pepa_checks.specs.declared.cause.CheckCause.TheVariants.{Unsupported, Twice, UnknownName, TauInSet, BadRate, NotSequential, ModelCycle, Unguarded, TooMany, MixedChoice}
 use Rattle.node_orders.specs.Cycles.{IsFirstCycle, HasNoCycle}
 use Rattle.node_orders.proofs.AlongOrders.{one_first}
 use Rattle.pepa_resolver.specs.declared.refusal.ResolveCause.{ResolveCause}
@@ -31,7 +31,7 @@ use Rattle.pepa_resolver.proofs.OneNumbering.{one_list_of_bodies, one_named_syst
 use Rattle.pepa_checks.specs.Outline.{Outline, outline_of, expression_in}
 use Rattle.pepa_checks.specs.Activities.{activities_in, sites, written_leaves, IsFirstWritten, HasMixed, HasNoMixed, IsMixedLeaf, IsFirstMixed}
 use Rattle.pepa_checks.specs.Limits.{PassesLimit}
-use Rattle.pepa_checks.specs.CheckedFiles.{Sound, IsRefusedFor, IsModelOf}
+use Rattle.pepa_checks.specs.CheckedFiles.{Sound, IsAtFaultFor, IsModelOf}
 use Rattle.pepa_checks.proofs.OneTree.{one_opening}
 use Rattle.pepa_checks.proofs.OneModel.{same_bodies, same_system, same_compounds}
 
@@ -122,6 +122,7 @@ module _ (input : List ℕ) (tokens : List Token) (file : FileNode) where
   stopped_in_order ModelCycle i h = misbuilt_behind ModelCycle i h
   stopped_in_order Unguarded i h = misbuilt_behind Unguarded i h
   stopped_in_order MixedChoice i h = elim h [ ]
+  stopped_in_order Unsupported i h = elim h [ ]
 
   stopped_judges : Judges (IsNamesRefusedFor input tokens file) (Numbering input tokens file) → Judges (IsStoppedFor input tokens file) IsFine
   stopped_judges named =
@@ -239,7 +240,7 @@ module _ (input : List ℕ) (tokens : List Token) (file : FileNode) where
   is_fine : Sound input tokens file → IsFine input tokens file
   is_fine s = (record { values = s.values; bodies = s.bodies; system = s.system; numbered = s.numbered }, s.structured)
 
-  in_turn : (cause : CheckCause) (i : ℕ) → IsRefusedFor input tokens file cause i → InTurn cause i
+  in_turn : (cause : CheckCause) (i : ℕ) → IsAtFaultFor input tokens file cause i → InTurn cause i
   in_turn TooMany i (inl h) = inl h
   in_turn TooMany i (inr (sound, over, at)) = inr (is_fine sound, (sound, inl (refl, (over, at))))
   in_turn MixedChoice i (sound, within, mixed) = inr (is_fine sound, (sound, inr (within, (refl, mixed))))
@@ -248,21 +249,21 @@ module _ (input : List ℕ) (tokens : List Token) (file : FileNode) where
   abbrev HasModel : Type 0
   HasModel = (m : PepaModel) × IsModelOf input tokens file m
 
-  node_judges : Judges (IsStoppedFor input tokens file) (IsFine input tokens file) → Judges (IsRefusedFor input tokens file) HasModel
+  node_judges : Judges (IsStoppedFor input tokens file) (IsFine input tokens file) → Judges (IsAtFaultFor input tokens file) HasModel
   node_judges stopped =
-      fewer InTurn (IsRefusedFor input tokens file) (IsFine input tokens file × FineOf) HasModel
+      fewer InTurn (IsAtFaultFor input tokens file) (IsFine input tokens file × FineOf) HasModel
       in_turn (λ read. (is_fine read.1.sound, (read.1.sound, (read.1.within, read.1.unmixed))))
       (behind (IsStoppedFor input tokens file) LastOf (IsFine input tokens file) FineOf stopped sound_judges)
 
-judges : (input : List ℕ) (tokens : List Token) (tree : FileTree) → IsFileTree (terminals input tokens) tree → Judges (IsRefusedFor input tokens (file_node_of tree)) (HasModel input tokens (file_node_of tree))
+judges : (input : List ℕ) (tokens : List Token) (tree : FileTree) → IsFileTree (terminals input tokens) tree → Judges (IsAtFaultFor input tokens (file_node_of tree)) (HasModel input tokens (file_node_of tree))
 judges input tokens tree is = node_judges input tokens (file_node_of tree) (stopped_judges input tokens (file_node_of tree) (file_judges input tokens tree is))
 
-pub one_refusal : (input : List ℕ) (tokens : List Token) (tree : FileTree) (cause other : CheckCause) (i j : ℕ) → IsFileTree (terminals input tokens) tree → IsRefusedFor input tokens (file_node_of tree) cause i → IsRefusedFor input tokens (file_node_of tree) other j → (cause ≡ other) × (i ≡ j)
-one_refusal input tokens tree cause other i j is h k =
+pub one_fault : (input : List ℕ) (tokens : List Token) (tree : FileTree) (cause other : CheckCause) (i j : ℕ) → IsFileTree (terminals input tokens) tree → IsAtFaultFor input tokens (file_node_of tree) cause i → IsAtFaultFor input tokens (file_node_of tree) other j → (cause ≡ other) × (i ≡ j)
+one_fault input tokens tree cause other i j is h k =
     ((judges input tokens tree is).same_cause cause other i j h k, (judges input tokens tree is).same_index cause other i j h k)
 
-pub refused_or_read : (input : List ℕ) (tokens : List Token) (tree : FileTree) (cause : CheckCause) (i : ℕ) (m : PepaModel) → IsFileTree (terminals input tokens) tree → IsRefusedFor input tokens (file_node_of tree) cause i → ¬ IsModelOf input tokens (file_node_of tree) m
-refused_or_read input tokens tree cause i m is h read = (judges input tokens tree is).apart cause i h (m, read)
+pub at_fault_or_read : (input : List ℕ) (tokens : List Token) (tree : FileTree) (cause : CheckCause) (i : ℕ) (m : PepaModel) → IsFileTree (terminals input tokens) tree → IsAtFaultFor input tokens (file_node_of tree) cause i → ¬ IsModelOf input tokens (file_node_of tree) m
+at_fault_or_read input tokens tree cause i m is h read = (judges input tokens tree is).apart cause i h (m, read)
 
 pub refused_or_structured : (input : List ℕ) (tokens : List Token) (tree : FileTree) (cause : CheckCause) (i : ℕ) (values : List Rate) (bodies : List Named) (system : Named) → IsFileTree (terminals input tokens) tree → IsStoppedFor input tokens (file_node_of tree) cause i → IsNumberedFile input tokens (file_node_of tree) values bodies system → ¬ IsStructured bodies system
 refused_or_structured input tokens tree cause i values bodies system is h numbered structured =

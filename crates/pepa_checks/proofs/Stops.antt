@@ -61,3 +61,4 @@ stopped_within input tokens tree causes.NotSequential i is h = misbuilt_within i
 stopped_within input tokens tree causes.ModelCycle i is h = misbuilt_within input tokens tree causes.ModelCycle i is h
 stopped_within input tokens tree causes.Unguarded i is h = misbuilt_within input tokens tree causes.Unguarded i is h
 stopped_within input tokens tree causes.MixedChoice i is h = elim h [ ]
+stopped_within input tokens tree causes.Unsupported i is h = elim h [ ]

@@ -19,7 +19,8 @@ use Rattle.pepa_resolver.specs.ResolvedFiles.{IsNumberedFile}
 use Rattle.pepa_resolver.specs.Numbers.{naming_of, named_bodies, named_system}
 use Rattle.pepa_checks.specs.Structure.{NotSequentialAt, CompoundEdge, UnguardedEdge}
 use Rattle.node_orders.specs.Cycles.{IsFirstCycle}
-use Rattle.pepa_checks.proofs.EdgeLists.{compound_within, unguarded_within}
+use Rattle.pepa_checks.proofs.EdgeLists.{edge_within}
+use Rattle.pepa_checks.specs.declared.structure.EdgeKind.TheVariants as kinds
 use Rattle.pepa_resolver.proofs.Within.{EachInProcess, EachInFile, Inside, file_inside}
 use Rattle.node_orders.proofs.Elements.{contains_cases, contains_map_from, no_element, one_element}
 
@@ -95,11 +96,11 @@ same_count input tokens file values bodies system numbered =
 
 pub compound_line : (input : List ℕ) (tokens : List Token) (file : FileNode) (values : List Rate) (bodies : List Named) (system : Named) (c : ℕ) → IsNumberedFile input tokens file values bodies system → IsFirstCycle (CompoundEdge bodies) c → c < length file.processes
 compound_line input tokens file values bodies system c numbered first =
-    omega (arith, same_count input tokens file values bodies system numbered, compound_within bodies c first.cycle.1.0 first.cycle.1.1)
+    omega (arith, same_count input tokens file values bodies system numbered, edge_within kinds.Compound bodies c first.cycle.1.0 first.cycle.1.1)
 
 pub unguarded_line : (input : List ℕ) (tokens : List Token) (file : FileNode) (values : List Rate) (bodies : List Named) (system : Named) (c : ℕ) → IsNumberedFile input tokens file values bodies system → IsFirstCycle (UnguardedEdge bodies) c → c < length file.processes
 unguarded_line input tokens file values bodies system c numbered first =
-    omega (arith, same_count input tokens file values bodies system numbered, unguarded_within bodies c first.cycle.1.0 first.cycle.1.1)
+    omega (arith, same_count input tokens file values bodies system numbered, edge_within kinds.Unguarded bodies c first.cycle.1.0 first.cycle.1.1)
 
 line_each : (P : ℕ → Type 0) (lines : List ProcessLineNode) (c i : ℕ) → AllByRecursion (λ line. P line.line_at × EachInProcess P line.body) lines → slice_get (process_ats lines) c ≡ Some i → P i
 line_each P [] c i all e = cc

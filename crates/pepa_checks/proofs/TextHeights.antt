@@ -90,6 +90,7 @@ module _ (naming : Naming) where
       let height = process_height (at + 2) process in
       let one : length (g.line_spelled (g.ProcessNamed process)) ≤ most_tokens = short.0 in
       (omega arith, lines_low (at + length (g.line_spelled (g.ProcessNamed process))) lines short.1)
+  lines_low at (g.ProbeWritten target whole ∷ lines) short = lines_low (at + length (g.line_spelled (g.ProbeWritten target whole))) lines short.1
 
   system_low : (at : ℕ) (process : g.Process) (ending : g.Ending) → length (g.item_spelled (g.System process ending)) ≤ most_tokens → height_in (named naming (process_tree at process)) ≤ most_height
   system_low at process ending short =

@@ -11,6 +11,7 @@ use Rattle.pepa_lexer.specs.TokenLists.{place_of, kind_of, token_at, tokens_alon
 use Rattle.pepa_lexer.specs.declared.kinds.Kind.{Kind}
 use Rattle.pepa_lexer.specs.declared.kinds.Kind.TheVariants as kinds
 use Rattle.pepa_lexer.specs.declared.kinds.Token.{Token}
+use Rattle.token_grammar.specs.SmallNames.{Plain, Probing}
 use Rattle.pepa_reader.specs.Grammar as g
 use Rattle.pepa_reader.specs.Grammar.{word_spelled}
 use Rattle.token_grammar.specs.declared.terminal.Terminal.{Terminal}
@@ -97,23 +98,23 @@ abbrev IsTauOrAction : List ℕ → Type 0
 IsTauOrAction bytes = (bytes ≡ codes "tau") ⊎ IsActionName bytes
 
 no_top : (word : g.Word) → ¬ (terminal.Top ≡ word_spelled word)
-no_top (g.Named g.Plain) h = cc
-no_top (g.Named g.Probing) h = cc
+no_top (g.Named Plain) h = cc
+no_top (g.Named Probing) h = cc
 no_top g.Internal h = cc
 
 no_capital : (word : g.Word) → ¬ (terminal.Capital ≡ word_spelled word)
-no_capital (g.Named g.Plain) h = cc
-no_capital (g.Named g.Probing) h = cc
+no_capital (g.Named Plain) h = cc
+no_capital (g.Named Probing) h = cc
 no_capital g.Internal h = cc
 
 no_number : (word : g.Word) → ¬ (terminal.Number ≡ word_spelled word)
-no_number (g.Named g.Plain) h = cc
-no_number (g.Named g.Probing) h = cc
+no_number (g.Named Plain) h = cc
+no_number (g.Named Probing) h = cc
 no_number g.Internal h = cc
 
 no_end : (word : g.Word) → ¬ (terminal.End ≡ word_spelled word)
-no_end (g.Named g.Plain) h = cc
-no_end (g.Named g.Probing) h = cc
+no_end (g.Named Plain) h = cc
+no_end (g.Named Probing) h = cc
 no_end g.Internal h = cc
 
 module _ (word : g.Word) where
@@ -145,8 +146,8 @@ module _ (word : g.Word) where
       no_mark h = by word h
         where
           by : (w : g.Word) → ¬ (terminal.Mark sign ≡ word_spelled w)
-          by (g.Named g.Plain) h = cc
-          by (g.Named g.Probing) h = cc
+          by (g.Named Plain) h = cc
+          by (g.Named Probing) h = cc
           by g.Internal h = cc
 
 -- ---- at an index

@@ -6,8 +6,9 @@ use Rattle.std.proofs.lemmas.List.Elements.{Contains-append_left, Contains-appen
 use Rattle.pepa_lexer.specs.declared.kinds.Sign.TheVariants.{Equals, Semicolon, Opening, Closing, Comma, Dot, Plus, Slash, Less, Greater, OpeningBrace, ClosingBrace}
 use Rattle.token_grammar.specs.declared.terminal.Terminal.{Terminal}
 use Rattle.token_grammar.specs.declared.terminal.Terminal.TheVariants.{Mark, Capital}
+use Rattle.token_grammar.specs.SmallNames.{small_spelled}
 use Rattle.pepa_reader.specs.Grammar as g
-use Rattle.pepa_reader.specs.Grammar.{rate_spelled, cooperation_spelled, process_spelled, choice_spelled, hidden_spelled, prefix_spelled, line_spelled, lines_spelled, item_spelled, file_spelled, words_spelled, further_words, word_spelled, small_spelled, ending_spelled}
+use Rattle.pepa_reader.specs.Grammar.{rate_spelled, cooperation_spelled, process_spelled, choice_spelled, hidden_spelled, prefix_spelled, line_spelled, lines_spelled, item_spelled, file_spelled, words_spelled, further_words, word_spelled, ending_spelled}
 use Rattle.pepa_reader.specs.Trees.{ProcessNode, ConstantAt, PrefixAt, ChoiceOf, CoopAt, HideOf, ProcessLineNode, word_indices, cooperation_indices, process_tree, choice_tree, hidden_tree, prefix_tree, process_lines_from, file_tree}
 use Rattle.pepa_resolver.specs.Parts.{process_ats, processes_of}
 use Rattle.pepa_resolver.specs.Numbers.{words_in}
@@ -155,6 +156,9 @@ module _ (ts : List Terminal) where
         ),
         lines_at (at + length line) lines behind (behind_it ts at line more whole),
       )
+  lines_at at (g.ProbeWritten target whole ∷ lines) behind e =
+      let line : List Terminal = line_spelled (g.ProbeWritten target whole) in
+      lines_at (at + length line) lines behind (behind_it ts at line (lines_spelled lines ++ behind) (e ∙ append_assoc line (lines_spelled lines) behind))
 
   each_body : (P : ℕ → Type 0) (lines : List ProcessLineNode) (i : ℕ) → AllByRecursion (λ (line : ProcessLineNode). (slice_get ts line.line_at ≡ Some Capital) × EachWord P line.body) lines → Contains (flat_map words_in (map (λ (line : ProcessLineNode). line.body) lines)) i → P i
   each_body P [] i h c = absurd (no_element i c)

@@ -1,5 +1,5 @@
 -- What checking a file answers: its model, or its first fault.
-use Rattle.std.specs.Prelude.{◌≡◌, ℕ, ◌^◌, ◌≤◌, ◌⊎◌, Bool, List, length, Some, slice_get, Result, Ok, Err}
+use Rattle.std.specs.Prelude.{◌≡◌, ℕ, ◌^◌, ◌≤◌, ◌⊎◌, Bool, List, [], ◌∷◌, length, Some, slice_get, Result, Ok, Err}
 use Rattle.std.specs.List.{AllZip}
 use Rattle.pepa_rates.specs.declared.rate.Rate.{Rate}
 use Rattle.pepa_lexer.specs.declared.kinds.Token.{Token}
@@ -7,11 +7,11 @@ use Rattle.pepa_lexer.specs.declared.kinds.Place.{Place}
 use Rattle.pepa_lexer.specs.TokenLists.{IsTokens}
 use Rattle.pepa_reader.specs.Grammar.{File, System, item_spelled, file_spelled}
 use Rattle.token_grammar.specs.Terminals.{terminals, name_at}
-use Rattle.pepa_reader.specs.Trees.{FileNode, file_tree}
+use Rattle.pepa_reader.specs.Trees.{ProbeLineNode, FileNode, file_tree}
 use Rattle.pepa_reader.specs.FileAnswers.{AreShort, most_tokens}
 use Rattle.pepa_model.specs.PepaModel.{PepaModel}
 use Rattle.pepa_checks.specs.declared.cause.CheckCause.{CheckCause}
-use Rattle.pepa_checks.specs.declared.cause.CheckCause.TheVariants.{TooMany, MixedChoice}
+use Rattle.pepa_checks.specs.declared.cause.CheckCause.TheVariants.{Unsupported, TooMany, MixedChoice}
 use Rattle.pepa_checks.specs.declared.cause.CheckEnd.{CheckEnd}
 use Rattle.pepa_checks.specs.declared.cause.CheckEnd.TheVariants.{Refused, Memory}
 use Rattle.pepa_resolver.specs.Named.{Named, first_at}
@@ -44,15 +44,24 @@ outline sound = outline_of sound.compounds sound.bodies sound.system
 abbrev pub IsOverLimit : {input : List ℕ} {tokens : List Token} {file : FileNode} → Sound input tokens file → Type 0
 IsOverLimit {input} {tokens} {file} sound = PassesLimit (actions_of (name_at input tokens) file) (outline sound)
 
--- the file is refused for the cause at the index
-abbrev pub IsRefusedFor : List ℕ → List Token → FileNode → CheckCause → ℕ → Type 0
-IsRefusedFor input tokens file TooMany i =
+-- a file without probe lines has this fault first, at the index
+abbrev pub IsAtFaultFor : List ℕ → List Token → FileNode → CheckCause → ℕ → Type 0
+IsAtFaultFor input tokens file TooMany i =
     IsStoppedFor input tokens file TooMany i
     ⊎ ((sound : Sound input tokens file) × IsOverLimit sound × (i ≡ first_at sound.system))
-IsRefusedFor input tokens file MixedChoice i =
+IsAtFaultFor input tokens file MixedChoice i =
     (sound : Sound input tokens file) × (¬ IsOverLimit sound)
     × IsFirstMixed (outline sound) sound.bodies (written_leaves sound.compounds sound.bodies sound.system) i
-IsRefusedFor input tokens file cause i = IsStoppedFor input tokens file cause i
+IsAtFaultFor input tokens file cause i = IsStoppedFor input tokens file cause i
+
+-- the first of these probe lines begins at the index
+abbrev pub IsFirstProbe : List ProbeLineNode → ℕ → Type 0
+IsFirstProbe lines i = (line : ProbeLineNode) × (more : List ProbeLineNode) × (lines ≡ line ∷ more) × (i ≡ line.line_at)
+
+-- the file is refused for the cause at the index: for its first probe line, or else for its first fault
+abbrev pub IsRefusedFor : List ℕ → List Token → FileNode → CheckCause → ℕ → Type 0
+IsRefusedFor input tokens file Unsupported i = IsFirstProbe file.probes i
+IsRefusedFor input tokens file cause i = (file.probes ≡ []) × IsAtFaultFor input tokens file cause i
 
 -- at the place of the token at the index
 pub record IsRefused (input : List ℕ) (tokens : List Token) (file : FileNode) (cause : CheckCause) (place : Place) : Type 0 where
@@ -62,8 +71,9 @@ pub record IsRefused (input : List ℕ) (tokens : List Token) (file : FileNode) 
   pub is_token : slice_get tokens i ≡ Some token
   pub place_is : place ≡ token.place
 
--- the model of a file without a fault: its names, its outline, and the activities of its leaves
+-- the model of a file without a fault and without probes: its names, its outline, and the activities of its leaves
 pub record IsModelOf (input : List ℕ) (tokens : List Token) (file : FileNode) (m : PepaModel) : Type 0 where
+  pub no_probes : file.probes ≡ []
   pub sound : Sound input tokens file
   pub within : ¬ IsOverLimit sound
   pub unmixed : HasNoMixed (outline sound)

@@ -13,8 +13,6 @@ pub mod LeavesAnswers
 pub mod CountedFiles
 pub mod MadeModels
 pub mod FileEnds
-pub mod NodeTests
-pub mod NodeLaws
 pub mod NodeTables
 pub mod Candidates
 pub mod LeafTables
@@ -23,3 +21,4 @@ pub mod Aliases
 pub mod StructureAnswers
 pub mod StructuredFiles
 pub mod FileViews
+pub mod Existence

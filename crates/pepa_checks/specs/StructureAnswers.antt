@@ -1,11 +1,13 @@
 -- What the check of the structure answers.
-use Rattle.std.specs.Prelude.{◌≡◌, ℕ, true, cond, Option, Some, List, length}
+use Rattle.std.specs.Prelude.{◌≡◌, ℕ, Bool, true, false, cond, Option, Some, List, [], length}
 use Rattle.std.specs.List.{Contains}
 use Rattle.pepa_checks.specs.declared.structure.Parts.{Parts}
 use Rattle.pepa_checks.specs.declared.structure.Structure.{Structure}
 use Rattle.pepa_checks.specs.declared.structure.Misbuilt.{Misbuilt}
-use Rattle.pepa_checks.specs.declared.structure.Misbuilt.TheVariants.{NotSequential, ModelCycle, Unguarded}
-use Rattle.pepa_resolver.specs.Named.{Named, first_at, sequential_parts}
+use Rattle.pepa_checks.specs.declared.structure.Misbuilt.TheVariants as misbuilt
+use Rattle.pepa_checks.specs.declared.structure.EdgeKind.{EdgeKind}
+use Rattle.pepa_checks.specs.declared.structure.EdgeKind.TheVariants.{Compound, Unguarded}
+use Rattle.pepa_resolver.specs.Named.{Named, first_at, sequential_parts, constants_named, unguarded}
 use Rattle.pepa_checks.specs.Structure.{has_system, IsSystem, IsCompoundConstant, NotSequentialAt, CompoundEdge, UnguardedEdge}
 use Rattle.node_orders.specs.Cycles.{IsFirstCycle, HasNoCycle}
 use Rattle.pepa_resolver.specs.Faults.{HasNone, IsLeast}
@@ -28,6 +30,18 @@ pub record TellsParts (bodies : List Named) (process : Named) (parts : Parts) : 
 abbrev pub fault_of : Parts → Option ℕ
 fault_of parts = cond parts.is_system (lesser_index parts.least (Some parts.first)) parts.least
 
+-- the edges of a kind
+abbrev pub ConstantEdge : EdgeKind → List Named → ℕ → ℕ → Type 0
+ConstantEdge Compound bodies = CompoundEdge bodies
+ConstantEdge Unguarded bodies = UnguardedEdge bodies
+
+-- where they lead from a constant with this body, which is compound or isn't
+abbrev pub successors_of : EdgeKind → Bool → Named → List ℕ
+successors_of Compound true body = constants_named body
+successors_of Compound false body = []
+successors_of Unguarded true body = []
+successors_of Unguarded false body = unguarded body
+
 -- nothing is wrong
 pub record IsStructured (bodies : List Named) (system : Named) : Type 0 where
   pub sequential : HasNone (NotSequentialAt bodies system)
@@ -44,7 +58,7 @@ pub record IsStructureOf (bodies : List Named) (system : Named) (count : ℕ) (f
 
 -- what is wrong first
 abbrev pub IsMisbuiltBy : List Named → Named → Misbuilt → Type 0
-IsMisbuiltBy bodies system (NotSequential i) = IsLeast (NotSequentialAt bodies system) i
-IsMisbuiltBy bodies system (ModelCycle c) = HasNone (NotSequentialAt bodies system) × IsFirstCycle (CompoundEdge bodies) c
-IsMisbuiltBy bodies system (Unguarded c) =
+IsMisbuiltBy bodies system (misbuilt.NotSequential i) = IsLeast (NotSequentialAt bodies system) i
+IsMisbuiltBy bodies system (misbuilt.ModelCycle c) = HasNone (NotSequentialAt bodies system) × IsFirstCycle (CompoundEdge bodies) c
+IsMisbuiltBy bodies system (misbuilt.Unguarded c) =
     HasNone (NotSequentialAt bodies system) × HasNoCycle (CompoundEdge bodies) × IsFirstCycle (UnguardedEdge bodies) c

@@ -13,7 +13,7 @@ use Rattle.pepa_resolver.specs.Named.{Named}
 use Rattle.pepa_resolver.specs.NamedTypes.{named_of, bodies_of}
 use Rattle.pepa_resolver.specs.ResolvedFiles.{IsNumberedFile, IsResolvedFile}
 use Rattle.pepa_checks.specs.declared.cause.CheckCause.{CheckCause}
-use Rattle.pepa_checks.specs.declared.cause.CheckCause.TheVariants.{Twice, UnknownName, TauInSet, BadRate, NotSequential, ModelCycle, Unguarded, TooMany, MixedChoice}
+use Rattle.pepa_checks.specs.declared.cause.CheckCause.TheVariants.{Unsupported, Twice, UnknownName, TauInSet, BadRate, NotSequential, ModelCycle, Unguarded, TooMany, MixedChoice}
 use Rattle.pepa_checks.specs.declared.structure.Misbuilt.{Misbuilt}
 use Rattle.pepa_checks.specs.declared.structure.Misbuilt.TheVariants as faults
 use Rattle.pepa_checks.specs.declared.structured_file.StructuredFile.{StructuredFile}
@@ -60,6 +60,7 @@ IsStoppedFor input tokens file NotSequential i = IsMisbuiltFile input tokens fil
 IsStoppedFor input tokens file ModelCycle i = IsMisbuiltFile input tokens file ModelCycle i
 IsStoppedFor input tokens file Unguarded i = IsMisbuiltFile input tokens file Unguarded i
 IsStoppedFor input tokens file MixedChoice i = ⊥
+IsStoppedFor input tokens file Unsupported i = ⊥
 
 -- a file without a fault up to its structure, with numbers in place of names, and its structure
 pub record IsStructuredFile (input : List ℕ) (tokens : List Token) (file : FileNode) (found : StructuredFile) : Type 0 where

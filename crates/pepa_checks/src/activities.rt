@@ -5,6 +5,7 @@ ghost use Rattle.pepa_checks.specs.Summands.{ArePerformed};
 ghost use Rattle.pepa_checks.specs.ActivityLists.{LeafChoices, choices_outline, written, OpensIntoMany, performed_by, performed_in, AreSoFar, MakesList, PassesMost};
 
 use crate::over_limit::OverLimit;
+use crate::structured_file::FileView;
 use crate::summand::{Performed, Summand};
 use fault_ends::End;
 use pepa_model::Activity;
@@ -144,24 +145,29 @@ impl Lists {
     }
 }
 
-/// What each leaf performs, by number.
+/// What each leaf performs, by number, from the numbers of the leaves that are constants and the operands of each leaf's choice.
 ///
-/// The constants stand in the order behind those that stand in their bodies behind no activity, whose lists theirs are made of.
-/// Each list is made once, in the time of its operands and its activities, and there is room for it before it is made.
+/// In the file's order a sequential constant comes after those that its body reaches without an activity, since its list is made of
+/// theirs. Each list is made once, in the time of its operands and its activities, and there is room for it before it is made.
 pub(crate) fn performed(
     alloc: Global,
-    compounds: &[bool],
-    order: &[u32],
+    file: FileView,
     constants: &[u32],
     leaves: &[Items<Summand>],
 ) -> Result<Items<Items<Performed>>, End<OverLimit>>
-    requires { LeafChoices compounds.now order.now constants.now leaves.now }
-    ensures performed { (choices : LeafChoices compounds.now order.now constants.now leaves.now)
+    requires { LeafChoices file.compounds.now file.sequential_order.now constants.now leaves.now }
+    ensures performed { (choices : LeafChoices file.entry.compounds.now
+        file.entry.sequential_order.now constants.now leaves.now)
         → OkOrFault result
         (ArePerformed (choices_outline choices) choices.bodies (written choices))
         (λ _. OpensIntoMany (choices_outline choices)) }
     ensures few { IfOk result (λ lists. sum_by length lists ≤ 65535) }
 {
+    let FileView {
+        compounds,
+        sequential_order: order,
+        ..
+    } = file;
     let mut lists = Lists::new(alloc, leaves.len())?;
     for constant in order {
         let constant = *constant as usize;

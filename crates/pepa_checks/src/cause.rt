@@ -9,6 +9,8 @@ use std::alloc::AllocError;
 /// Why a file has no model.
 #[derive(Clone, Copy, Debug, PartialEq, Eq)]
 pub enum CheckCause {
+    /// A probe line, which isn't supported yet.
+    Unsupported,
     /// A name has two lines.
     Twice,
     /// A name has no line.

@@ -34,44 +34,21 @@ pub(crate) fn count(alloc: Global, file: &StructuredFile) -> Result<Counted, End
     requires { IsOrderedFile file.now }
     ensures { OkOrFault result (IsCountedFile file.now) (λ _. IsPastLimit file.now) }
 {
-    let compounds = file.structure.compounds.as_slice();
-    let bodies = file.numbered.bodies.as_slice();
-    let system = &file.numbered.system;
+    let view = file.view();
     if file.numbered.actions.len() > MOST_ACTIONS + 1 {
         return Err(End::Fault(OverLimit));
     }
-    let sets = set_table(alloc, bodies, system)?;
+    let sets = set_table(alloc, view)?;
     if sets.len() > MOST_SETS {
         return Err(End::Fault(OverLimit));
     }
-    let leaves = leaves_of(alloc, compounds, bodies, system)?;
-    let order = file.structure.sequential_order.as_slice();
+    let leaves = leaves_of(alloc, view)?;
     let constants = leaves.constants.as_slice();
-    let performed = performed(
-        alloc,
-        compounds,
-        order,
-        constants,
-        leaves.summands.as_slice(),
-    )?;
-    if is_too_large(
-        alloc,
-        Measure::Leaves,
-        compounds,
-        file.structure.compound_order.as_slice(),
-        bodies,
-        system,
-    )? {
+    let performed = performed(alloc, view, constants, leaves.summands.as_slice())?;
+    if is_too_large(alloc, Measure::Leaves, view)? {
         return Err(End::Fault(OverLimit));
     }
-    if is_too_large(
-        alloc,
-        Measure::Nodes,
-        compounds,
-        file.structure.compound_order.as_slice(),
-        bodies,
-        system,
-    )? {
+    if is_too_large(alloc, Measure::Nodes, view)? {
         return Err(End::Fault(OverLimit));
     }
     Ok(Counted {

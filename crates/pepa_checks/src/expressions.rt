@@ -1,15 +1,15 @@
 //! The expressions of a file's processes, each walked once.
-ghost use Rattle.std.specs.Prelude.{◌≡◌, ◌≤◌, List, ◌∷◌, ◌++◌, false, length, IfOk, OnOk};
+ghost use Rattle.std.specs.Prelude.{◌≡◌, List, ◌∷◌, ◌++◌, false, IfOk, OnOk};
 ghost use Rattle.pepa_resolver.specs.Named.{Named};
 ghost use Rattle.pepa_resolver.specs.NamedTypes.{named_of, bodies_of};
-ghost use Rattle.pepa_checks.specs.Structure.{has_system, IsCompoundConstant, NotSequentialAt};
-ghost use Rattle.pepa_resolver.specs.Faults.{HasNone};
-ghost use Rattle.node_orders.specs.Graphs.{IsTableOf};
+ghost use Rattle.pepa_checks.specs.Structure.{has_system};
+ghost use Rattle.pepa_checks.specs.FileViews.{IsOrderedView};
 ghost use Rattle.pepa_checks.specs.Outline.{is_compound as is_compound_by};
 ghost use Rattle.pepa_checks.specs.Activities.{written_followers, written_components};
 ghost use Rattle.pepa_checks.specs.Candidates.{Stands, Walked, Put, has_system_part, ConstantLine, AreHeads, LineWalked, IsFileWalk};
 
 use crate::nodes::{Node, RateKey, add_node};
+use crate::structured_file::FileView;
 use crate::summand::Summand;
 use indexmap::IndexSet;
 use pepa_resolver::NamedProcess;
@@ -196,19 +196,18 @@ impl<'p> Walk<'p> {
     }
 }
 
-/// Walks the processes of a file, where the flags say which constants are compound.
-pub(crate) fn walk_file<'p>(
-    alloc: Global,
-    compounds: &[bool],
-    bodies: &'p [NamedProcess],
-    system: &'p NamedProcess,
-) -> Result<FileWalk<'p>, AllocError>
-    requires few { length bodies.now ≤ 1024 }
-    requires sizes { length compounds.now ≡ length bodies.now }
-    requires compounds { IsTableOf (IsCompoundConstant (bodies_of bodies.now)) compounds.now }
-    requires sequential { HasNone (NotSequentialAt (bodies_of bodies.now) (named_of system.now)) }
-    ensures { IfOk result (IsFileWalk compounds.now (bodies_of bodies.now) (named_of system.now)) }
+/// Walks the processes of a file.
+pub(crate) fn walk_file<'p>(alloc: Global, file: FileView<'p>) -> Result<FileWalk<'p>, AllocError>
+    requires { IsOrderedView file }
+    ensures { IfOk result (IsFileWalk file.entry.compounds.now (bodies_of file.entry.bodies.now)
+        (named_of file.entry.system.now)) }
 {
+    let FileView {
+        compounds,
+        bodies,
+        system,
+        ..
+    } = file;
     let mut walk = Walk {
         nodes: IndexSet::new(alloc),
         candidates: Items::new(alloc),

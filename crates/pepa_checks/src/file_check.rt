@@ -1,16 +1,16 @@
 //! The checks of a file, and its model.
-ghost use Rattle.std.specs.Prelude.{◌≡◌, ◌<◌, length, Some, slice_get};
+ghost use Rattle.std.specs.Prelude.{◌≡◌, ◌<◌, [], length, map, MatchOption, Some, slice_get};
 ghost use Rattle.fault_ends.specs.Answers.{OkOrFault};
 ghost use Rattle.pepa_lexer.specs.TokenLists.{IsTokens};
 ghost use Rattle.pepa_lexer.specs.declared.kinds.Token.{Token};
 ghost use Rattle.token_grammar.specs.Terminals.{terminals};
-ghost use Rattle.pepa_reader.specs.Trees.{file_node_of};
+ghost use Rattle.pepa_reader.specs.Trees.{probe_line_of, file_node_of};
 ghost use Rattle.pepa_reader.specs.FileAnswers.{IsFileTree};
 ghost use Rattle.pepa_resolver.specs.Named.{first_at};
 ghost use Rattle.pepa_resolver.specs.NamedTypes.{named_of};
 ghost use Rattle.pepa_checks.specs.FileViews.{IsOrderedFile};
 ghost use Rattle.pepa_checks.specs.FileEnds.{IsUnmixedFile, IsLateRefusal};
-ghost use Rattle.pepa_checks.specs.CheckedFiles.{IsModelOf, IsRefusedFor, Checks};
+ghost use Rattle.pepa_checks.specs.CheckedFiles.{IsFirstProbe, IsModelOf, IsAtFaultFor, Checks};
 
 use crate::cause::{CheckCause, CheckEnd, Refusal};
 use crate::counting::{Counted, count};
@@ -21,7 +21,7 @@ use crate::structured_file::{StructuredFile, structured_file};
 use fault_ends::End;
 use pepa_lexer::{Place, Token};
 use pepa_model::Model;
-use pepa_reader::FileTree;
+use pepa_reader::{FileTree, ProbeLine};
 use pepa_resolver::NamedProcess;
 use std::alloc::Global;
 
@@ -63,7 +63,7 @@ fn judge(alloc: Global, file: &StructuredFile) -> Result<Counted, End<Refusal>>
     }
 }
 
-/// The model of a file, or its first fault, at the token of an index.
+/// The model of a file without probe lines, or its first fault, at the token of an index.
 fn model_or_refusal(
     alloc: Global,
     tree: &FileTree,
@@ -72,15 +72,27 @@ fn model_or_refusal(
 ) -> Result<Model, End<Refusal>>
     requires tokens { IsTokens input.now tokens.now }
     requires tree { IsFileTree (terminals input.now tokens.now) tree.now }
+    requires probes { tree.now.probes ≡ [] }
     ensures { OkOrFault result
         (IsModelOf input.now tokens.now (file_node_of tree.now))
-        (λ refusal. IsRefusedFor input.now tokens.now
+        (λ refusal. IsAtFaultFor input.now tokens.now
         (file_node_of tree.now) refusal.cause refusal.at) }
 {
     let file = structured_file(alloc, tree, tokens, input)?;
     match judge(alloc, &file) {
         Ok(counted) => Ok(model_of(alloc, file, counted)?),
         Err(end) => Err(end),
+    }
+}
+
+/// The index at which the first of these probe lines begins, if there is one.
+fn first_probe(lines: &[ProbeLine]) -> Option<usize>
+    ensures { MatchOption result (lines.now ≡ [])
+        (λ at. IsFirstProbe (map probe_line_of lines.now) at) }
+{
+    match sqlite_items::at(lines, 0) {
+        Some(line) => Some(line.at),
+        None => None,
     }
 }
 
@@ -96,6 +108,7 @@ fn place_at(tokens: &[Token], at: usize) -> Place
 ///
 /// `tokens` are those of `input`, and `tree` is read from them. A file is refused for the first of these that it has:
 ///
+/// - `Unsupported`: a probe line, at its word `probe`; probes are not supported yet;
 /// - `TooMany`: the 1,025th rate line, or the 1,025th process line, at its first token;
 /// - `Twice`: a rate name or a constant that has an earlier line of its kind, at its name;
 /// - `UnknownName`: a constant without a process line, a rate name in an activity without a rate line, or a rate name in a
@@ -124,6 +137,12 @@ pub fn check(
     requires tree { IsFileTree (terminals input.now tokens.now) tree.now }
     ensures { Checks input.now tokens.now (file_node_of tree.now) result }
 {
+    if let Some(at) = first_probe(tree.probes.as_slice()) {
+        return Err(CheckEnd::Refused {
+            cause: CheckCause::Unsupported,
+            place: place_at(tokens, at),
+        });
+    }
     match model_or_refusal(alloc, tree, tokens, input) {
         Ok(model) => Ok(model),
         Err(End::Fault(refusal)) => Err(CheckEnd::Refused {

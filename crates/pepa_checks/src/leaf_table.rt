@@ -123,7 +123,11 @@ impl LeafTable {
     }
 
     /// The operands from the first one on, with the numbers of leaves in place of nodes'.
-    fn turned(&self, alloc: Global, operands: &[Summand]) -> Result<Items<Summand>, AllocError>
+    fn with_leaf_numbers(
+        &self,
+        alloc: Global,
+        operands: &[Summand],
+    ) -> Result<Items<Summand>, AllocError>
         requires { length self.now.numbers.keys ≤ 65535 }
         ensures { IfOk result (λ list. list ≡ renumbered self.now.numbers.keys operands.now) }
     {
@@ -144,7 +148,7 @@ impl LeafTable {
     {
         let mut lists = Items::new(alloc);
         for operands in self.operands.as_slice() {
-            lists.push(self.turned(alloc, operands.as_slice())?)?;
+            lists.push(self.with_leaf_numbers(alloc, operands.as_slice())?)?;
         }
         Ok(lists)
     }

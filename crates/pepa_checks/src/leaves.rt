@@ -2,18 +2,16 @@
 ghost use Rattle.std.specs.Prelude.{◌≡◌, ◌≤◌, length, IfOk};
 ghost use Rattle.fault_ends.specs.Answers.{OkOrFault};
 ghost use Rattle.pepa_resolver.specs.NamedTypes.{named_of, bodies_of};
-ghost use Rattle.pepa_checks.specs.Structure.{IsCompoundConstant, NotSequentialAt};
-ghost use Rattle.pepa_resolver.specs.Faults.{HasNone};
-ghost use Rattle.node_orders.specs.Graphs.{IsTableOf};
+ghost use Rattle.pepa_checks.specs.FileViews.{IsOrderedView};
 ghost use Rattle.pepa_checks.specs.LeavesAnswers.{IsLeavesOf, LeavesAreTooMany, numbers_from};
 
 use crate::expressions::{FileWalk, walk_file};
 use crate::leaf_table::LeafTable;
 use crate::over_limit::OverLimit;
+use crate::structured_file::FileView;
 use crate::summand::Summand;
 use fault_ends::End;
 use pepa_model::SequentialList;
-use pepa_resolver::NamedProcess;
 use sqlite_items::Items;
 use std::alloc::{AllocError, Global};
 
@@ -47,23 +45,16 @@ fn constant_leaves(alloc: Global, compounds: &[bool]) -> Result<Items<u32>, Allo
     Ok(numbers)
 }
 
-/// The leaves of the processes of a file, where the flags say which constants are compound. Equal expressions are found by their
-/// numbers, and each process is walked once.
-pub(crate) fn leaves_of(
-    alloc: Global,
-    compounds: &[bool],
-    bodies: &[NamedProcess],
-    system: &NamedProcess,
-) -> Result<Leaves, End<OverLimit>>
-    requires few { length bodies.now ≤ 1024 }
-    requires sizes { length compounds.now ≡ length bodies.now }
-    requires compounds { IsTableOf (IsCompoundConstant (bodies_of bodies.now)) compounds.now }
-    requires sequential { HasNone (NotSequentialAt (bodies_of bodies.now) (named_of system.now)) }
+/// The leaves of the processes of a file. Equal expressions are found by their numbers, and each process is walked once.
+pub(crate) fn leaves_of(alloc: Global, file: FileView) -> Result<Leaves, End<OverLimit>>
+    requires { IsOrderedView file }
     ensures { OkOrFault result
-        (IsLeavesOf compounds.now (bodies_of bodies.now) (named_of system.now))
-        (λ _. LeavesAreTooMany compounds.now (bodies_of bodies.now) (named_of system.now)) }
+        (IsLeavesOf file.entry.compounds.now (bodies_of file.entry.bodies.now)
+        (named_of file.entry.system.now))
+        (λ _. LeavesAreTooMany file.entry.compounds.now (bodies_of file.entry.bodies.now)
+        (named_of file.entry.system.now)) }
 {
-    let FileWalk { walk, mut heads } = walk_file(alloc, compounds, bodies, system)?;
+    let FileWalk { walk, mut heads } = walk_file(alloc, file)?;
     let mut table = LeafTable::new(alloc);
     while let Some(head) = heads.pop() {
         table.add_head(head)?;
@@ -76,7 +67,7 @@ pub(crate) fn leaves_of(
         }
     }
     let summands = table.summands(alloc)?;
-    let constants = constant_leaves(alloc, compounds)?;
+    let constants = constant_leaves(alloc, file.compounds)?;
     Ok(Leaves {
         expressions: table.expressions,
         summands,

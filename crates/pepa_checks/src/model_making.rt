@@ -51,16 +51,11 @@ fn new_parts(
     requires { MakesModel file.now counted.now }
     ensures { IfOk result (λ parts. AreNewParts file.now counted.now parts) }
 {
-    let compounds = file.structure.compounds.as_slice();
-    let bodies = definitions(
-        alloc,
-        compounds,
-        &counted.sets,
-        file.numbered.bodies.as_slice(),
-    )?;
+    let view = file.view();
+    let bodies = definitions(alloc, view, &counted.sets)?;
     let activities = activity_lists(alloc, counted.performed.as_slice())?;
     let sets = set_lists(alloc, &counted.sets)?;
-    let system = system_shape(alloc, compounds, &counted.sets, &file.numbered.system)?;
+    let system = system_shape(alloc, view.compounds, &counted.sets, view.system)?;
     Ok(NewParts {
         bodies,
         activities,

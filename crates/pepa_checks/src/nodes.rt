@@ -1,25 +1,22 @@
 //! Expressions by number, each once.
-ghost use Rattle.std.specs.Prelude.{◌≡◌, fold, IfOk};
+ghost use Rattle.std.specs.Prelude.{◌≡◌, IfOk};
 ghost use Rattle.pepa_model.specs.Expression.{Expression};
-ghost use Rattle.std.specs.Cmp.{partial_equiv_from_equiv};
-ghost use Rattle.pepa_checks.specs.NodeTests.{same_key as same_key_by, same_node, key_fed, node_fed};
-ghost use Rattle.pepa_checks.specs.NodeLaws.{same_node_equiv, fed_alike};
 ghost use Rattle.pepa_checks.specs.NodeTables.{rate_by, Builds, IsNodeTable, expressions_by, Has};
 
 use indexmap::IndexSet;
 use pepa_rates::Rate;
 use std::alloc::AllocError;
-use std::hash::{Hash, Hasher};
 
-/// A rate's kind, numerator and denominator, by which it is compared and hashed.
-#[derive(Clone, Copy, Debug)]
+/// A rate's kind, numerator and denominator. A node has these in place of a `Rate`, since the prover can't follow a value of another
+/// crate's type into a set.
+#[derive(Clone, Copy, Debug, PartialEq, Eq, Hash)]
 pub(crate) enum RateKey {
     Active(u64, u64),
     Passive(u64, u64),
 }
 
 /// An expression, by the numbers of its parts.
-#[derive(Clone, Copy, Debug)]
+#[derive(Clone, Copy, Debug, PartialEq, Eq, Hash)]
 pub(crate) enum Node {
     Constant(u32),
     Activity {
@@ -30,21 +27,6 @@ pub(crate) enum Node {
     Choice(u32, u32),
 }
 
-/// Whether two rates have the same numbers and are of the same kind.
-fn same_key(left: &RateKey, right: &RateKey) -> bool
-    ensures { result ≡ same_key_by left.now right.now }
-{
-    match (left, right) {
-        (RateKey::Active(num, den), RateKey::Active(other_num, other_den)) => {
-            num == other_num && den == other_den
-        }
-        (RateKey::Passive(num, den), RateKey::Passive(other_num, other_den)) => {
-            num == other_num && den == other_den
-        }
-        _ => false,
-    }
-}
-
 impl RateKey {
     /// The key of a rate.
     pub(crate) fn of(rate: &Rate) -> RateKey
@@ -53,78 +35,6 @@ impl RateKey {
         match rate {
             Rate::Active(p) => RateKey::Active(p.num, p.den),
             Rate::Passive(p) => RateKey::Passive(p.num, p.den),
-        }
-    }
-}
-
-impl PartialEq for Node {
-    ghost eq = { same_node };
-
-    ghost laws = { partial_equiv_from_equiv same_node_equiv };
-
-    fn eq(&self, other: &Node) -> bool {
-        match (self, other) {
-            (Node::Constant(c), Node::Constant(d)) => c == d,
-            (
-                Node::Activity { action, rate, next },
-                Node::Activity {
-                    action: other_action,
-                    rate: other_rate,
-                    next: other_next,
-                },
-            ) => action == other_action && same_key(rate, other_rate) && next == other_next,
-            (Node::Choice(left, right), Node::Choice(other_left, other_right)) => {
-                left == other_left && right == other_right
-            }
-            _ => false,
-        }
-    }
-}
-
-impl Eq for Node {
-    ghost laws = { same_node_equiv };
-}
-
-/// Hashes a rate.
-fn hash_key<H: Hasher>(key: &RateKey, state: &mut H)
-    ensures { state.new ≡ fold H.write state.old (key_fed key.now) }
-{
-    match key {
-        RateKey::Active(num, den) => {
-            state.write_u8(0);
-            num.hash(state);
-            den.hash(state);
-        }
-        RateKey::Passive(num, den) => {
-            state.write_u8(1);
-            num.hash(state);
-            den.hash(state);
-        }
-    }
-}
-
-impl Hash for Node {
-    ghost hash_input = { node_fed };
-
-    ghost respects_eq = { fed_alike };
-
-    fn hash<H: Hasher>(&self, state: &mut H) {
-        match self {
-            Node::Constant(constant) => {
-                state.write_u8(0);
-                constant.hash(state);
-            }
-            Node::Activity { action, rate, next } => {
-                state.write_u8(1);
-                action.hash(state);
-                hash_key(rate, state);
-                next.hash(state);
-            }
-            Node::Choice(left, right) => {
-                state.write_u8(2);
-                left.hash(state);
-                right.hash(state);
-            }
         }
     }
 }

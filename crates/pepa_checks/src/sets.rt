@@ -7,6 +7,7 @@ ghost use Rattle.pepa_resolver.specs.NumberSteps.{with_name, with_names};
 ghost use Rattle.pepa_checks.specs.Outline.{sets_written, sets_of};
 
 use crate::number_set::{NumberSet, Numbers};
+use crate::structured_file::FileView;
 use indexmap::IndexMap;
 use pepa_model::{Words32, Words32List};
 use pepa_resolver::NamedProcess;
@@ -50,13 +51,11 @@ fn add_sets(alloc: Global, sets: &mut SetTable, process: &NamedProcess) -> Resul
 }
 
 /// The sets of a file: each once, by their first places in the right sides of the constants and in the system.
-pub(crate) fn set_table(
-    alloc: Global,
-    bodies: &[NamedProcess],
-    system: &NamedProcess,
-) -> Result<SetTable, AllocError>
-    ensures { IfOk result (λ sets. keys sets ≡ sets_of (bodies_of bodies.now) (named_of system.now)) }
+pub(crate) fn set_table(alloc: Global, file: FileView) -> Result<SetTable, AllocError>
+    ensures { IfOk result (λ sets. keys sets
+        ≡ sets_of (bodies_of file.entry.bodies.now) (named_of file.entry.system.now)) }
 {
+    let FileView { bodies, system, .. } = file;
     let mut sets = IndexMap::new(alloc);
     for body in bodies {
         add_sets(alloc, &mut sets, body)?;

@@ -9,6 +9,7 @@ ghost use Rattle.pepa_checks.specs.Sequences.{HasSequentialParts, AreBodies};
 
 use crate::sequential::sequential_of;
 use crate::sets::{SetTable, set_number};
+use crate::structured_file::FileView;
 use pepa_model::{Bodies, Body, Sequential, Shape2};
 use pepa_resolver::NamedProcess;
 use sqlite_items::Items;
@@ -89,16 +90,21 @@ fn body_of(
 /// What the constants stand for, by number.
 pub(crate) fn definitions(
     alloc: Global,
-    compounds: &[bool],
+    file: FileView,
     sets: &SetTable,
-    bodies: &[NamedProcess],
 ) -> Result<Bodies, AllocError>
     requires few { length (keys sets.now) ≤ 1024 }
-    requires one_each { length compounds.now ≡ length bodies.now }
-    requires bodies { AreBodies compounds.now (bodies_of bodies.now) }
+    requires one_each { length file.compounds.now ≡ length file.bodies.now }
+    requires bodies { AreBodies file.compounds.now (bodies_of file.bodies.now) }
     ensures { IfOk result (λ made. map definition_of made
-        ≡ definitions_in compounds.now (keys sets.now) compounds.now (bodies_of bodies.now)) }
+        ≡ definitions_in file.entry.compounds.now (keys sets.now) file.entry.compounds.now
+        (bodies_of file.entry.bodies.now)) }
 {
+    let FileView {
+        compounds,
+        bodies,
+        ..
+    } = file;
     let mut made = Items::new(alloc);
     for number in 0..bodies.len() {
         let body = body_of(alloc, compounds, sets, compounds[number], &bodies[number])?;

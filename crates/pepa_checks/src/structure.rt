@@ -3,12 +3,12 @@ ghost use Rattle.std.specs.Prelude.{◌≡◌, ℕ, ◌≤◌, ◌++◌, false, 
 ghost use Rattle.fault_ends.specs.Answers.{OkOrFault};
 ghost use Rattle.pepa_resolver.specs.ResolvedFiles.{HasNumbersInRange};
 ghost use Rattle.pepa_resolver.specs.Named.{Named, constants_named, unguarded as unguarded_named};
-ghost use Rattle.pepa_checks.specs.Structure.{IsCompoundConstant, NotSequentialAt, CompoundEdge, UnguardedEdge};
+ghost use Rattle.pepa_checks.specs.Structure.{IsCompoundConstant, NotSequentialAt};
 ghost use Rattle.node_orders.specs.Graphs.{AreBelow, IsTableOf, HasTheEdges};
 ghost use Rattle.pepa_resolver.specs.NamedTypes.{named_of, bodies_of, HasConstantsBelow};
 ghost use Rattle.pepa_resolver.specs.Finding.{FindsLeast, lesser_index};
 ghost use Rattle.node_orders.specs.Ranks.{IsCycleOrOrder};
-ghost use Rattle.pepa_checks.specs.StructureAnswers.{TellsParts, fault_of, IsStructureOf, IsMisbuiltBy};
+ghost use Rattle.pepa_checks.specs.StructureAnswers.{TellsParts, fault_of, ConstantEdge, successors_of, IsStructureOf, IsMisbuiltBy};
 
 use crate::compounds::compound_table;
 use fault_ends::End;
@@ -33,13 +33,22 @@ pub(crate) enum Misbuilt {
 pub(crate) struct Structure {
     /// Which constants are compound.
     pub(crate) compounds: Items<bool>,
-    /// The constants, each compound one behind those in its body.
+    /// The constants, each compound one after those in its body.
     pub(crate) compound_order: Items<u32>,
-    /// The constants, each sequential one behind those that stand in its body behind no activity.
+    /// The constants, each sequential one after those that its body reaches without an activity.
     pub(crate) sequential_order: Items<u32>,
 }
 
-/// What is told of one process.
+/// Which edges lead from one constant to others.
+#[derive(Clone, Copy, Debug)]
+pub(crate) enum EdgeKind {
+    /// From a compound constant to each constant in its body.
+    Compound,
+    /// From a sequential constant to each one that its body reaches without an activity.
+    Unguarded,
+}
+
+/// What is known of one process.
 #[derive(Clone, Copy)]
 struct Parts {
     /// A cooperation or a hiding stands in it.
@@ -174,53 +183,55 @@ fn add_unguarded(process: &NamedProcess, to: &mut Items<u32>) -> Result<(), Allo
     Ok(())
 }
 
-/// The edges of the compound constants.
-fn compound_edges(
+/// The constants that the edges of a kind lead to from a constant with this body.
+fn successors(
     alloc: Global,
+    kind: EdgeKind,
+    is_compound: bool,
+    body: &NamedProcess,
+) -> Result<Items<u32>, AllocError>
+    ensures { IfOk result (λ list. list ≡ successors_of kind is_compound (named_of body.now)) }
+{
+    let mut list = Items::new(alloc);
+    match kind {
+        EdgeKind::Compound => {
+            if is_compound {
+                add_constants(body, &mut list)?;
+            }
+        }
+        EdgeKind::Unguarded => {
+            if !is_compound {
+                add_unguarded(body, &mut list)?;
+            }
+        }
+    }
+    Ok(list)
+}
+
+/// The edges of a kind: for each constant those that it leads to.
+fn edges_of(
+    alloc: Global,
+    kind: EdgeKind,
     table: &[bool],
     bodies: &[NamedProcess],
 ) -> Result<Items<Items<u32>>, AllocError>
     requires compounds { IsTableOf (IsCompoundConstant (bodies_of bodies.now)) table.now }
     requires sizes { length table.now ≡ length bodies.now }
     ensures lists { IfOk result (λ edges. length edges ≡ length bodies.now) }
-    ensures edges { IfOk result (HasTheEdges (CompoundEdge (bodies_of bodies.now))) }
+    ensures edges { IfOk result (HasTheEdges (ConstantEdge kind (bodies_of bodies.now))) }
 {
     let mut edges = Items::new(alloc);
     for at in 0..bodies.len() {
-        let mut targets = Items::new(alloc);
-        if table[at] {
-            add_constants(&bodies[at], &mut targets)?;
-        }
-        edges.push(targets)?;
+        let list = successors(alloc, kind, table[at], &bodies[at])?;
+        edges.push(list)?;
     }
     Ok(edges)
 }
 
-/// The edges of the sequential constants.
-fn unguarded_edges(
+/// What is found along the edges of a kind: the least constant that reaches itself, or an order.
+fn search(
     alloc: Global,
-    table: &[bool],
-    bodies: &[NamedProcess],
-) -> Result<Items<Items<u32>>, AllocError>
-    requires compounds { IsTableOf (IsCompoundConstant (bodies_of bodies.now)) table.now }
-    requires sizes { length table.now ≡ length bodies.now }
-    ensures lists { IfOk result (λ edges. length edges ≡ length bodies.now) }
-    ensures edges { IfOk result (HasTheEdges (UnguardedEdge (bodies_of bodies.now))) }
-{
-    let mut edges = Items::new(alloc);
-    for at in 0..bodies.len() {
-        let mut targets = Items::new(alloc);
-        if !table[at] {
-            add_unguarded(&bodies[at], &mut targets)?;
-        }
-        edges.push(targets)?;
-    }
-    Ok(edges)
-}
-
-/// What is found of the compound constants: the least one that reaches itself, or an order.
-fn search_compound(
-    alloc: Global,
+    kind: EdgeKind,
     table: &[bool],
     bodies: &[NamedProcess],
 ) -> Result<CycleOrOrder, AllocError>
@@ -228,26 +239,9 @@ fn search_compound(
     requires below { HasConstantsBelow (length bodies.now) (bodies_of bodies.now) }
     requires compounds { IsTableOf (IsCompoundConstant (bodies_of bodies.now)) table.now }
     requires sizes { length table.now ≡ length bodies.now }
-    ensures { IfOk result (IsCycleOrOrder (CompoundEdge (bodies_of bodies.now)) (length bodies.now)) }
+    ensures { IfOk result (IsCycleOrOrder (ConstantEdge kind (bodies_of bodies.now)) (length bodies.now)) }
 {
-    let edges = compound_edges(alloc, table, bodies)?;
-    let found = cycle_or_order(alloc, edges.as_slice())?;
-    Ok(found)
-}
-
-/// What is found of the sequential constants: the least one that reaches itself with no activity between, or an order.
-fn search_sequential(
-    alloc: Global,
-    table: &[bool],
-    bodies: &[NamedProcess],
-) -> Result<CycleOrOrder, AllocError>
-    requires few { length bodies.now ≤ 1024 }
-    requires below { HasConstantsBelow (length bodies.now) (bodies_of bodies.now) }
-    requires compounds { IsTableOf (IsCompoundConstant (bodies_of bodies.now)) table.now }
-    requires sizes { length table.now ≡ length bodies.now }
-    ensures { IfOk result (IsCycleOrOrder (UnguardedEdge (bodies_of bodies.now)) (length bodies.now)) }
-{
-    let edges = unguarded_edges(alloc, table, bodies)?;
+    let edges = edges_of(alloc, kind, table, bodies)?;
     let found = cycle_or_order(alloc, edges.as_slice())?;
     Ok(found)
 }
@@ -268,11 +262,11 @@ fn check_structure(
     if let Some(at) = first_not_sequential(compounds.as_slice(), bodies, system) {
         return Err(End::Fault(Misbuilt::NotSequential(at)));
     }
-    let compound_order = match search_compound(alloc, compounds.as_slice(), bodies)? {
+    let compound_order = match search(alloc, EdgeKind::Compound, compounds.as_slice(), bodies)? {
         CycleOrOrder::Cycle(constant) => return Err(End::Fault(Misbuilt::ModelCycle(constant))),
         CycleOrOrder::Order(order) => order,
     };
-    let sequential_order = match search_sequential(alloc, compounds.as_slice(), bodies)? {
+    let sequential_order = match search(alloc, EdgeKind::Unguarded, compounds.as_slice(), bodies)? {
         CycleOrOrder::Cycle(constant) => return Err(End::Fault(Misbuilt::Unguarded(constant))),
         CycleOrOrder::Order(order) => order,
     };

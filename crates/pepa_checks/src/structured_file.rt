@@ -8,13 +8,14 @@ ghost use Rattle.pepa_reader.specs.Trees.{file_node_of, process_line_of};
 ghost use Rattle.pepa_reader.specs.FileAnswers.{IsFileTree};
 ghost use Rattle.pepa_resolver.specs.Parts.{process_ats};
 ghost use Rattle.pepa_checks.specs.StructuredFiles.{HasItsLine, IsToldAt, IsStructuredFile, IsStoppedFor};
+ghost use Rattle.pepa_checks.specs.FileViews.{IsViewOf};
 
 use crate::cause::{CheckCause, Refusal, told_cause};
 use crate::structure::{Misbuilt, Structure, structure_of};
 use fault_ends::End;
 use pepa_lexer::Token;
 use pepa_reader::{FileTree, ProcessLine};
-use pepa_resolver::{NumberedFile, ResolveEnd, resolve};
+use pepa_resolver::{NamedProcess, NumberedFile, ResolveEnd, resolve};
 use std::alloc::Global;
 
 /// A file with numbers in place of names, and its structure.
@@ -22,6 +23,35 @@ use std::alloc::Global;
 pub(crate) struct StructuredFile {
     pub(crate) numbered: NumberedFile,
     pub(crate) structure: Structure,
+}
+
+/// The processes of a file with its structure, as the checks of its model go through them.
+#[derive(Clone, Copy)]
+pub(crate) struct FileView<'f> {
+    /// Which constants are compound.
+    pub(crate) compounds: &'f [bool],
+    /// What the constants stand for, by number.
+    pub(crate) bodies: &'f [NamedProcess],
+    pub(crate) system: &'f NamedProcess,
+    /// The constants, each compound one after those in its body.
+    pub(crate) compound_order: &'f [u32],
+    /// The constants, each sequential one after those that its body reaches without an activity.
+    pub(crate) sequential_order: &'f [u32],
+}
+
+impl StructuredFile {
+    /// Its processes and its structure.
+    pub(crate) fn view(&self) -> FileView
+        ensures { IsViewOf self.now result }
+    {
+        FileView {
+            compounds: self.structure.compounds.as_slice(),
+            bodies: self.numbered.bodies.as_slice(),
+            system: &self.numbered.system,
+            compound_order: self.structure.compound_order.as_slice(),
+            sequential_order: self.structure.sequential_order.as_slice(),
+        }
+    }
 }
 
 /// The index of the name of a constant's line.

@@ -1,13 +1,13 @@
 //! How many leaves and how many nodes the expanded system has.
-ghost use Rattle.std.specs.Prelude.{◌≡◌, ◌+◌, ◌<◌, ◌↔◌, List, ℕ, length, IfOk, IsTrue, slice_index};
+ghost use Rattle.std.specs.Prelude.{◌≡◌, ◌+◌, ◌<◌, ◌↔◌, List, ℕ, IfOk, IsTrue, slice_index};
 ghost use Rattle.pepa_model.specs.Expanded.{Expanded, Expands};
 ghost use Rattle.pepa_resolver.specs.Named.{constants_named};
-ghost use Rattle.pepa_resolver.specs.NamedTypes.{named_of, bodies_of};
-ghost use Rattle.pepa_checks.specs.Structure.{IsCompoundConstant, CompoundEdge};
-ghost use Rattle.node_orders.specs.Graphs.{AreBelow, IsTableOf, IsOrder};
-ghost use Rattle.pepa_checks.specs.Outline.{is_compound as is_compound_constant, outline_with};
+ghost use Rattle.pepa_resolver.specs.NamedTypes.{named_of};
+ghost use Rattle.pepa_checks.specs.FileViews.{IsOrderedView, outline_seen};
+ghost use Rattle.pepa_checks.specs.Outline.{is_compound as is_compound_constant};
 ghost use Rattle.pepa_checks.specs.SystemSizes.{measured, own_count, most_of, capped_count, IsCountIn};
 
+use crate::structured_file::FileView;
 use pepa_resolver::NamedProcess;
 use sqlite_items::Items;
 use std::alloc::{AllocError, Global};
@@ -93,25 +93,25 @@ fn size_of(measure: Measure, compounds: &[bool], counts: &[usize], process: &Nam
 
 /// Whether the system with its compound constants expanded has more than 255 leaves, or more than 1,023 nodes.
 ///
-/// The constants stand in the order behind those in their bodies, so each is counted once.
+/// In the file's order a compound constant comes after those in its body, so each is counted once.
 pub(crate) fn is_too_large(
     alloc: Global,
     measure: Measure,
-    compounds: &[bool],
-    order: &[u32],
-    bodies: &[NamedProcess],
-    system: &NamedProcess,
+    file: FileView,
 ) -> Result<bool, AllocError>
-    requires sizes { length compounds.now ≡ length bodies.now }
-    requires compounds { IsTableOf (IsCompoundConstant (bodies_of bodies.now)) compounds.now }
-    requires below { AreBelow (length bodies.now) (constants_named (named_of system.now)) }
-    requires order { IsOrder (CompoundEdge (bodies_of bodies.now)) (length bodies.now) order.now }
+    requires { IsOrderedView file }
     ensures { IfOk result (λ large. (sets : List (List ℕ)) (tree : Expanded)
-        → Expands (outline_with sets compounds.now (bodies_of bodies.now)
-        (named_of system.now)).definitions
-        (outline_with sets compounds.now (bodies_of bodies.now) (named_of system.now)).system tree
+        → Expands (outline_seen sets file.entry).definitions
+        (outline_seen sets file.entry).system tree
         → (IsTrue large ↔ (most_of measure < measured measure tree))) }
 {
+    let FileView {
+        compounds,
+        bodies,
+        system,
+        compound_order: order,
+        ..
+    } = file;
     let mut counts = Items::from_vec(vec![in alloc; 0; bodies.len()]?);
     for constant in order {
         let at = *constant as usize;

@@ -6,7 +6,8 @@ use Rattle.std.proofs.lemmas.Option.{same_Some}
 use Rattle.pepa_lexer.specs.declared.kinds.Token.{Token}
 use Rattle.token_grammar.specs.declared.terminal.Terminal.{Terminal}
 use Rattle.token_grammar.specs.declared.terminal.Terminal.TheVariants.{Small, Probe, Tau, Capital, Top}
-use Rattle.pepa_reader.specs.Grammar.{Word, Named, Internal, Plain, Probing, word_spelled}
+use Rattle.token_grammar.specs.SmallNames.{Plain, Probing}
+use Rattle.pepa_reader.specs.Grammar.{Word, Named, Internal, word_spelled}
 use Rattle.token_grammar.specs.Terminals.{small_terminal, capital_terminal, terminal_from, terminal_of, terminals, bytes_of, name_at}
 use Rattle.pepa_printer.proofs.Pieces.{Piece, piece_of}
 use Rattle.pepa_printer.proofs.PrintedFiles.{IsKindAt}

@@ -75,5 +75,6 @@ AreLinesAt input tokens m _ _ _ = ⊥
 -- no rate line, a line for each constant, and the system
 pub record IsPrintedFile (input : List ℕ) (tokens : List Token) (m : PepaModel) (file : FileNode) : Type 0 where
   pub no_rates : file.rates ≡ []
+  pub no_probes : file.probes ≡ []
   pub lines : AreLinesAt input tokens m m.constants m.bodies file.processes
   pub system : IsShapeAt input tokens m m.system file.system

@@ -7,7 +7,7 @@ use Rattle.token_grammar.specs.declared.terminal.Terminal.{Terminal}
 use Rattle.token_grammar.specs.declared.terminal.Terminal.TheVariants.{Capital, Mark, End}
 use Rattle.token_grammar.specs.Terminals.{terminals}
 use Rattle.pepa_reader.specs.Grammar.{File, Line, ProcessNamed, Open, process_spelled, line_spelled, lines_spelled, file_spelled}
-use Rattle.pepa_reader.specs.Trees.{rate_lines_from, process_lines_from, file_tree}
+use Rattle.pepa_reader.specs.Trees.{rate_lines_from, process_lines_from, probe_lines_from, file_tree}
 use Rattle.pepa_model.specs.Expression.{Definition}
 use Rattle.pepa_model.specs.PepaModel.{PepaModel, IsModel, IsSpelled}
 use Rattle.pepa_printer.specs.KnownBodies.{IsBodyOf}
@@ -29,6 +29,7 @@ record AsLines (input : List ℕ) (tokens : List Token) (m : PepaModel) (names :
   lines : List Line
   spelled : terminals_of (lines_pieces m names definitions) ≡ lines_spelled lines
   no_rates : rate_lines_from at lines ≡ []
+  no_probes : probe_lines_from at lines ≡ []
   tree : AreLinesAt input tokens m names definitions (process_lines_from at lines)
 
 -- the names and the definitions are those of lines that can be written
@@ -49,7 +50,7 @@ others_fine m name names d definitions fine = record {
 module _ (input : List ℕ) (tokens : List Token) (m : PepaModel) (is : IsModel m) (spelled : IsSpelled m) where
   lines_written : (names : List (List ℕ)) (definitions : List Definition) → AreFine m names definitions → (at : ℕ)
       → StandAt input tokens at (lines_pieces m names definitions) → AsLines input tokens m names definitions at
-  lines_written [] [] fine at h = record { lines = []; spelled = refl; no_rates = refl; tree = tt }
+  lines_written [] [] fine at h = record { lines = []; spelled = refl; no_rates = refl; no_probes = refl; tree = tt }
   lines_written [] (d ∷ definitions) fine at h = absurd (omega (arith, fine.sizes))
   lines_written (name ∷ names) [] fine at h = absurd (omega (arith, fine.sizes))
   lines_written (name ∷ names) (d ∷ definitions) fine at h =
@@ -72,6 +73,7 @@ module _ (input : List ℕ) (tokens : List Token) (m : PepaModel) (is : IsModel 
         lines = ProcessNamed process.part ∷ more.lines;
         spelled = terminals_append first others (line_spelled (ProcessNamed process.part)) (lines_spelled more.lines) line_is more.spelled;
         no_rates = more.no_rates;
+        no_probes = more.no_probes;
         tree = (name_there input tokens (first ++ others) at 0 at (capital_piece name) h refl (omega arith), process.tree, more.tree);
       }
 
@@ -111,7 +113,7 @@ module _ (input : List ℕ) (tokens : List Token) (m : PepaModel) (is : IsModel 
       record {
         file = record { lines = lines.lines; system = system.part; ending = Open };
         spelled = file_is lines_are system_is (lines_spelled lines.lines) (process_spelled system.part) pieces lines.spelled system.spelled;
-        printed = record { no_rates = lines.no_rates; lines = lines.tree; system = system.tree };
+        printed = record { no_rates = lines.no_rates; no_probes = lines.no_probes; lines = lines.tree; system = system.tree };
       }
 
 pub printed_tree : (input : List ℕ) (tokens : List Token) (m : PepaModel) → IsModel m → IsSpelled m → map (piece_of input) tokens ≡ model_pieces m → HasFile input tokens m

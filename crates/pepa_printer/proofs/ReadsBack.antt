@@ -36,6 +36,7 @@ printed_model input tokens m file is printed =
     } in
     let same : model_outline m ≡ outline sound = sym o.outline_is in
     record {
+      no_probes = printed.no_probes;
       sound = sound;
       within =
           subst (λ (l : Outline). ¬ PassesLimit (actions_of (name_at input tokens) file) l) same

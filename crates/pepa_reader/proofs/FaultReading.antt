@@ -1,24 +1,19 @@
 -- Why a file isn't read: what the machine shows of the first token that can't follow.
-use Rattle.std.proofs.Common.{◌≡◌, ◌≢◌, ℕ, suc, ◌+◌, ◌<◌, ◌≤◌, List, [], ◌∷◌, ◌++◌, length, get_or, take, drop, refl, sym, ap, subst, ◌∙◌, append_assoc, append-nil, length-append, arith, Some, None, Err}
+use Rattle.std.proofs.Common.{◌≡◌, ◌≢◌, ℕ, suc, ◌+◌, ◌<◌, ◌≤◌, List, [], ◌∷◌, ◌++◌, length, get_or, take, drop, sym, ap, subst, ◌∙◌, append_assoc, length-append, arith, Some, None, Err}
 use Rattle.std.proofs.lemmas.List.{length-map}
-use Rattle.std.proofs.lemmas.Option.{same_Some}
 use Rattle.std.proofs.Math.Seq.{drop-cons, take-append_seam}
 use Rattle.pepa_lexer.specs.declared.kinds.Token.{Token}
-use Rattle.pepa_lexer.specs.declared.kinds.Sign.TheVariants.{Equals}
 use Rattle.token_grammar.specs.declared.terminal.Terminal.{Terminal}
-use Rattle.token_grammar.specs.declared.terminal.Terminal.TheVariants.{Probe, Mark, End}
-use Rattle.token_grammar.specs.Machines.{runs}
+use Rattle.token_grammar.specs.declared.terminal.Terminal.TheVariants.{End}
 use Rattle.pepa_reader.specs.declared.fault.FileFault.{FileFault}
 use Rattle.pepa_reader.specs.declared.fault.FileFault.TheVariants as faults
 use Rattle.token_grammar.specs.Terminals.{terminals, terminal_of}
-use Rattle.pepa_reader.specs.Grammar.{Probing, Line, lines_spelled}
-use Rattle.pepa_reader.specs.FileAnswers.{most_tokens, AreShort, IsInItem, BeginsProbeLine, IsFile, IsRefusedAtToken, ReadsFile}
-use Rattle.token_grammar.specs.Languages.{CanGoOn, CantFollow, StandsAt}
-use Rattle.pepa_reader.specs.Machine.{ParserState, WantEquals, IsUndone, step, run, start}
-use Rattle.token_grammar.specs.Cursors.{Begins}
+use Rattle.pepa_reader.specs.Grammar.{Line, lines_spelled}
+use Rattle.pepa_reader.specs.FileAnswers.{most_tokens, AreShort, IsInItem, IsFile, IsRefusedAtToken, ReadsFile}
+use Rattle.token_grammar.specs.Languages.{CanGoOn, CantFollow}
+use Rattle.pepa_reader.specs.Machine.{ParserState, IsUndone, step, run, start}
 use Rattle.pepa_reader.specs.Reading.{CannotGoOn}
-use Rattle.pepa_reader.specs.ItemReading.{IsProbeLine, IsItemFault, ReadsItemAt}
-use Rattle.token_grammar.proofs.Places.{begins_there}
+use Rattle.pepa_reader.specs.ItemReading.{IsItemFault, ReadsItemAt}
 use Rattle.pepa_reader.proofs.ItemLaws.{begins_item, can_go_on, cant_go_on}
 
 -- ---- items that aren't read
@@ -29,7 +24,6 @@ item_fails input tokens at (faults.Expected place) h = h
 item_fails input tokens at (faults.TooDeep place) h = h
 item_fails input tokens at (faults.Array place) h = h
 item_fails input tokens at (faults.Wildcard place) h = h
-item_fails input tokens at (faults.Unsupported place) h = h
 item_fails input tokens at faults.Memory h = tt
 
 -- ---- lines, and a part of an item
@@ -92,69 +86,14 @@ cant_follow kinds at i h refused =
     }
 
 -- a refused terminal of the first 2,048
-pub is_refused : (kinds : List Terminal) (at i : ℕ) (h : Stopped kinds at i) → i ≤ at + most_tokens → i ≢ at + most_tokens → CannotGoOn h.state (drop i kinds) → ¬ IsProbeLine kinds at i → IsRefusedAtToken kinds i
-is_refused kinds at i h few not_deep refused no_line =
+pub is_refused : (kinds : List Terminal) (at i : ℕ) (h : Stopped kinds at i) → i ≤ at + most_tokens → i ≢ at + most_tokens → CannotGoOn h.state (drop i kinds) → IsRefusedAtToken kinds i
+is_refused kinds at i h few not_deep refused =
     record {
       first = cant_follow kinds at i h refused;
       begun = length h.text;
       in_item = in_item kinds at i h;
       few = omega (arith, h.index, λ (e : i ≡ at + most_tokens). not_deep e);
-      no_probe_line = λ before one behind stands. no_line (omega (arith, h.index), subst (λ n. StandsAt kinds n Probe) (same before one behind) stands);
     }
-  where
-    same : (before : ℕ) → length h.text ≡ 1 → i ≡ before + 1 → before ≡ at
-    same before one behind = omega (arith, h.index)
-
--- ---- probe lines
-
--- behind the word `probe` a `=` is wanted
-pub probe_runs : run start (Probe ∷ []) ≡ Some (WantEquals Probing)
-unfolding runs step
-probe_runs = refl
-
--- so no `=` is refused there
-no_equals_behind : (state : ParserState) (rest : List Terminal) → state ≡ WantEquals Probing → CannotGoOn state rest → ¬ Begins rest (Mark Equals)
-unfolding step
-no_equals_behind state [] e refused b = b
-no_equals_behind state (first ∷ more) e refused b =
-    let none : step (WantEquals Probing) (Mark Equals) ≡ None = subst (λ t. step (WantEquals Probing) t ≡ None) b (subst (λ s. step s first ≡ None) e refused) in
-    cc
-
--- a text of one terminal, which is `probe`
-one_probe : (text front back : List Terminal) → length text ≡ 1 → front ≡ text ++ back → Begins front Probe → text ≡ Probe ∷ []
-one_probe [] front back one e b = absurd (omega arith)
-one_probe (t ∷ []) front back one e b = ap (λ u. u ∷ []) (first e b)
-  where
-    first : front ≡ t ∷ back → Begins front Probe → t ≡ Probe
-    first f b' = rw f at b'
-one_probe (t ∷ u ∷ more) front back one e b = absurd (omega arith)
-
--- what is refused at once behind `probe` makes a probe line
-pub begins_probe_line : (kinds : List Terminal) (at i : ℕ) (h : Stopped kinds at i) → drop at kinds ≡ h.text ++ drop i kinds → CannotGoOn h.state (drop i kinds) → IsProbeLine kinds at i → BeginsProbeLine kinds at
-unfolding runs
-begins_probe_line kinds at i h spelled refused line =
-    let one : h.text ≡ Probe ∷ [] = one_probe h.text (drop at kinds) (drop i kinds) (omega (arith, h.index, line.0)) spelled (begins_there kinds at Probe line.1) in
-    let state : h.state ≡ WantEquals Probing = same_Some h.state (WantEquals Probing) (sym h.ran ∙ ap (run start) one ∙ probe_runs) in
-    record {
-      begins = in_item kinds at at (nothing_read kinds at i h spelled);
-      probe = line.1;
-      behind = λ stands. no_equals_behind h.state (drop i kinds) state refused (begins_there kinds i (Mark Equals) (subst (λ n. StandsAt kinds n (Mark Equals)) (sym line.0) stands));
-    }
-  where
-    nothing_read : (kinds : List Terminal) (at i : ℕ) (h : Stopped kinds at i) → drop at kinds ≡ h.text ++ drop i kinds → Stopped kinds at at
-    nothing_read kinds at i h spelled =
-        record {
-          lines = h.lines;
-          short = h.short;
-          text = [];
-          state = start;
-          whole = h.whole ∙ append_assoc (lines_spelled h.lines) h.text (drop i kinds) ∙ ap (λ l. lines_spelled h.lines ++ l) (sym spelled) ∙ ap (λ l. l ++ drop at kinds) (sym (append-nil (lines_spelled h.lines)));
-          from = h.from;
-          index = omega arith;
-          ran = refl;
-          undone = tt;
-          within = omega (arith, h.within, h.index);
-        }
 
 -- ---- faults
 
@@ -180,7 +119,7 @@ unfolding stopped
 file_fails input tokens at lines (faults.Expected place) short whole from h =
     let kinds = terminals input tokens in
     let s = stopped input tokens at lines (faults.Expected place) short whole from h in
-    record { i = h.i; is_fault = (is_refused kinds at h.i s h.few h.cause.0 (h.refused h.cause.0) h.cause.1, h.cause.2, h.cause.3); token = h.cause.4.0; is_token = h.cause.4.1; place = h.cause.4.2 }
+    record { i = h.i; is_fault = (is_refused kinds at h.i s h.few h.cause.0 (h.refused h.cause.0), h.cause.1, h.cause.2); token = h.cause.3.0; is_token = h.cause.3.1; place = h.cause.3.2 }
 file_fails input tokens at lines (faults.TooDeep place) short whole from h =
     let kinds = terminals input tokens in
     let s = stopped input tokens at lines (faults.TooDeep place) short whole from h in
@@ -189,16 +128,9 @@ file_fails input tokens at lines (faults.TooDeep place) short whole from h =
 file_fails input tokens at lines (faults.Array place) short whole from h =
     let kinds = terminals input tokens in
     let s = stopped input tokens at lines (faults.Array place) short whole from h in
-    record { i = h.i; is_fault = (is_refused kinds at h.i s h.few h.cause.0 (h.refused h.cause.0) h.cause.1, h.cause.2); token = h.cause.3.0; is_token = h.cause.3.1; place = h.cause.3.2 }
+    record { i = h.i; is_fault = (is_refused kinds at h.i s h.few h.cause.0 (h.refused h.cause.0), h.cause.1); token = h.cause.2.0; is_token = h.cause.2.1; place = h.cause.2.2 }
 file_fails input tokens at lines (faults.Wildcard place) short whole from h =
     let kinds = terminals input tokens in
     let s = stopped input tokens at lines (faults.Wildcard place) short whole from h in
-    record { i = h.i; is_fault = (is_refused kinds at h.i s h.few h.cause.0 (h.refused h.cause.0) h.cause.1, h.cause.2); token = h.cause.3.0; is_token = h.cause.3.1; place = h.cause.3.2 }
-file_fails input tokens at lines (faults.Unsupported place) short whole from h =
-    let kinds = terminals input tokens in
-    let s = stopped input tokens at lines (faults.Unsupported place) short whole from h in
-    record { i = at; is_fault = begins_probe_line kinds at h.i s h.spelled.whole (h.refused (one_not_deep at h.i h.cause.0.0)) h.cause.0; token = h.cause.1.0; is_token = h.cause.1.1; place = h.cause.1.2 }
-  where
-    one_not_deep : (at i : ℕ) → i ≡ at + 1 → i ≢ at + most_tokens
-    one_not_deep at i one deep = omega arith
+    record { i = h.i; is_fault = (is_refused kinds at h.i s h.few h.cause.0 (h.refused h.cause.0), h.cause.1); token = h.cause.2.0; is_token = h.cause.2.1; place = h.cause.2.2 }
 file_fails input tokens at lines faults.Memory short whole from h = tt

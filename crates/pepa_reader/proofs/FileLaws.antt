@@ -1,28 +1,20 @@
 -- Tokens have one answer: a file has no fault, and there is one fault at most.
-use Rattle.std.proofs.Common.{◌≡◌, ℕ, ◌+◌, ◌<◌, ◌≤◌, List, [], ◌∷◌, ◌++◌, length, get_or, take, drop, suc, Some, None, slice_get, ◌⊎◌, inl, inr, refl, sym, ap, subst, ◌∙◌, append_assoc, append-nil, length-append, arith}
-use Rattle.std.proofs.lemmas.List.{take-append-drop, length-take-le, length-drop}
-use Rattle.std.proofs.lemmas.Option.{same_Some, option_and_then_some, slice_get_within}
-use Rattle.std.proofs.Math.Seq.{drop-cons}
+use Rattle.std.proofs.Common.{◌≡◌, ℕ, ◌+◌, ◌<◌, ◌≤◌, List, [], ◌∷◌, ◌++◌, length, take, drop, Some, slice_get, ◌⊎◌, inl, inr, refl, sym, ap, subst, ◌∙◌, append_assoc, append-nil, length-append, arith}
+use Rattle.std.proofs.lemmas.List.{take-append-drop, length-take-le}
+use Rattle.std.proofs.lemmas.Option.{same_Some}
 use Rattle.pepa_lexer.specs.declared.kinds.Token.{Token}
 use Rattle.pepa_lexer.specs.declared.kinds.Place.{Place}
-use Rattle.pepa_lexer.specs.declared.kinds.Sign.TheVariants.{Equals, Star, OpeningBracket}
+use Rattle.pepa_lexer.specs.declared.kinds.Sign.TheVariants.{Star, OpeningBracket}
 use Rattle.token_grammar.specs.declared.terminal.Terminal.{Terminal}
-use Rattle.token_grammar.specs.declared.terminal.Terminal.TheVariants.{Probe, Mark, End}
-use Rattle.token_grammar.proofs.GoingOn.{can_before, not_before, cant_cant}
-use Rattle.token_grammar.proofs.Runs.{run-append}
-use Rattle.token_grammar.specs.Machines.{runs}
+use Rattle.token_grammar.specs.declared.terminal.Terminal.TheVariants.{Mark}
+use Rattle.token_grammar.proofs.GoingOn.{not_before, cant_cant}
 use Rattle.pepa_reader.specs.declared.fault.FileFault.{FileFault}
-use Rattle.pepa_reader.specs.declared.fault.FileFault.TheVariants.{Expected, TooDeep, Array, Wildcard, Unsupported, Memory}
+use Rattle.pepa_reader.specs.declared.fault.FileFault.TheVariants.{Expected, TooDeep, Array, Wildcard, Memory}
 use Rattle.token_grammar.specs.Terminals.{terminals}
-use Rattle.pepa_reader.specs.Grammar.{Probing, Process, Line, Ending, Item, OneLine, System, File, line_spelled, item_spelled, lines_spelled, file_spelled}
-use Rattle.pepa_reader.specs.FileAnswers.{most_tokens, AreShort, IsInItem, BeginsProbeLine, IsFile, IsRefusedAtToken, IsWildcard, IsFaultAt, IsPlaceOf, IsFileFault}
+use Rattle.pepa_reader.specs.Grammar.{Process, Line, Ending, Item, OneLine, System, File, line_spelled, item_spelled, lines_spelled, file_spelled}
+use Rattle.pepa_reader.specs.FileAnswers.{most_tokens, AreShort, IsInItem, IsFile, IsRefusedAtToken, IsWildcard, IsFaultAt, IsPlaceOf, IsFileFault}
 use Rattle.token_grammar.specs.Languages.{CanGoOn, StandsAt, CantFollow}
-use Rattle.pepa_reader.specs.Machine.{ParserState, WantEquals, Done, step, run, start}
-use Rattle.token_grammar.specs.Cursors.{Begins}
-use Rattle.pepa_reader.proofs.MachineRuns.{item_runs}
-use Rattle.token_grammar.proofs.Places.{begins_there, stands_there}
-use Rattle.pepa_reader.proofs.FaultReading.{front_taken, probe_runs}
-use Rattle.pepa_reader.proofs.ItemLaws.{one_item, item_goes_on, can_go_on, cant_go_on}
+use Rattle.pepa_reader.proofs.ItemLaws.{one_item, item_goes_on}
 
 -- ---- lines in front of one list
 
@@ -86,52 +78,6 @@ no_line_in_front line process ending more e = differ (one_item (System process e
     differ : System process ending ≡ OneLine line → ⊥
     differ h = cc
 
--- ---- probe lines
-
--- `probe` stands in front, and no `=` behind it
-abbrev IsProbeFront : List Terminal → Type 0
-IsProbeFront (Probe ∷ Mark Equals ∷ more) = ⊥
-IsProbeFront (Probe ∷ more) = Unit {0}
-IsProbeFront _ = ⊥
-
--- from what stands at the two places
-is_probe_front : (rest behind : List Terminal) (first : Terminal) → rest ≡ first ∷ behind → Begins rest Probe → ¬ Begins behind (Mark Equals) → IsProbeFront rest
-is_probe_front rest behind first e begins other = subst IsProbeFront (sym e) (cases first behind (rw e at begins) other)
-  where
-    cases : (first : Terminal) (behind : List Terminal) → first ≡ Probe → ¬ Begins behind (Mark Equals) → IsProbeFront (first ∷ behind)
-    cases Probe [] p no_equals = tt
-    cases Probe (Mark Equals ∷ more) p no_equals = absurd (no_equals refl)
-    cases Probe (_ ∷ more) p no_equals = tt
-    cases _ behind p no_equals = cc
-
--- the machine reads no second terminal there
-probe_stops : (text more : List Terminal) (state : ParserState) → IsProbeFront (text ++ more) → 1 < length text → run start text ≡ Some state → ⊥
-unfolding runs step
-probe_stops [] more state p long ran = absurd (omega arith)
-probe_stops (t ∷ []) more state p long ran = absurd (omega arith)
-probe_stops (Probe ∷ Mark Equals ∷ text) more state p long ran = p
-probe_stops (Probe ∷ _ ∷ text) more state p long ran = cc
-probe_stops (_ ∷ u ∷ text) more state p long ran = p
-
--- no item begins so
-no_item_there : (text more : List Terminal) (item : Item) → IsProbeFront (text ++ more) → run start text ≡ Some (Done item) → ⊥
-unfolding runs step
-no_item_there [] more item p ran = cc
-no_item_there (Probe ∷ []) more item p ran = cc
-no_item_there (_ ∷ []) more item p ran = p
-no_item_there (t ∷ u ∷ text) more item p ran = probe_stops (t ∷ u ∷ text) more (Done item) p (omega arith) ran
-
--- no item stands there
-no_item_at_probe : (rest more : List Terminal) (item : Item) → IsProbeFront rest → rest ≡ item_spelled item ++ more → ⊥
-no_item_at_probe rest more item p e = no_item_there (item_spelled item) more item (subst IsProbeFront e p) (item_runs item)
-
--- the machine reads a part of an item
-part_runs : (n : ℕ) (item : Item) → (state : ParserState) × (run start (take n (item_spelled item)) ≡ Some state)
-part_runs n item =
-    option_and_then_some (λ next. run next (drop n (item_spelled item))) (run start (take n (item_spelled item))) (Done item)
-    (sym (run-append step start (take n (item_spelled item)) (drop n (item_spelled item))) ∙ ap (run start) (take-append-drop n (item_spelled item)) ∙ item_runs item)
-    (λ state ran more. (state, ran))
-
 -- ---- where terminals can go on
 
 -- what stands behind the lines
@@ -141,29 +87,6 @@ behind_lines kinds i begun h = sym (take-append-drop i kinds) ∙ ap (λ l. l ++
 -- a part of an item can go on
 item_can_go_on : (kinds : List Terminal) (i begun : ℕ) → IsInItem kinds i begun → CanGoOn IsFile (take i kinds)
 item_can_go_on kinds i begun h = subst (CanGoOn IsFile) (sym h.before) (item_goes_on h.lines h.item (take begun (item_spelled h.item)) (drop begun (item_spelled h.item)) (sym (take-append-drop begun (item_spelled h.item))))
-
--- a `probe` line, and what stands before it
-record Probes (kinds : List Terminal) (i : ℕ) : Type 0 where
-  lines : List Line
-  short : AreShort lines
-  whole : kinds ≡ lines_spelled lines ++ drop i kinds
-  index : i ≡ length (lines_spelled lines)
-  front : IsProbeFront (drop i kinds)
-  within : i < length kinds
-
--- what a probe line is
-probes : (kinds : List Terminal) (i : ℕ) → BeginsProbeLine kinds i → Probes kinds i
-probes kinds i h =
-    let within = slice_get_within kinds i Probe h.probe in
-    let e : drop i kinds ≡ get_or kinds i End ∷ drop (i + 1) kinds = drop-cons kinds i End within ∙ ap (λ n. get_or kinds i End ∷ drop n kinds) {x = suc i} {y = i + 1} (omega arith) in
-    record {
-      lines = h.begins.lines;
-      short = h.begins.short;
-      whole = behind_lines kinds i 0 h.begins;
-      index = omega (arith, h.begins.index);
-      front = is_probe_front (drop i kinds) (drop (i + 1) kinds) (get_or kinds i End) e (begins_there kinds i Probe h.probe) (λ b. h.behind (stands_there kinds (i + 1) (Mark Equals) b));
-      within = within;
-    }
 
 -- ---- two faults
 
@@ -195,81 +118,6 @@ deep_deep kinds i j h k =
       ]
     ]
 
--- no probe line beside it
-deep_probe : (kinds : List Terminal) (i j : ℕ) → IsInItem kinds i most_tokens → BeginsProbeLine kinds j → ⊥
-deep_probe kinds i j h probe =
-    let k = probes kinds j probe in
-    let part = take most_tokens (item_spelled h.item) in
-    let len : length part ≡ most_tokens = length-take-le most_tokens (item_spelled h.item) (omega (arith, h.more)) in
-    let ran = part_runs most_tokens h.item in
-    elim (line_up h.lines k.lines (part ++ drop i kinds) (drop j kinds) (sym (behind_lines kinds i most_tokens h) ∙ k.whole)) [
-      | inl e ↦ probe_stops part (drop i kinds) ran.0 (subst IsProbeFront (sym e.same) k.front) (omega arith) ran.1
-      | inr e ↦ elim e [
-        | inl l ↦ part_front most_tokens h.item (OneLine l.line) (drop i kinds) l.more h.more (l.short k.short) l.spelled
-        | inr l ↦ no_item_at_probe (drop j kinds) l.more (OneLine l.line) k.front l.spelled
-      ]
-    ]
-
--- one probe line is the first
-probe_probe : (kinds : List Terminal) (i j : ℕ) → BeginsProbeLine kinds i → BeginsProbeLine kinds j → i ≡ j
-probe_probe kinds i j one other =
-    let h = probes kinds i one in
-    let k = probes kinds j other in
-    elim (line_up h.lines k.lines (drop i kinds) (drop j kinds) (sym h.whole ∙ k.whole)) [
-      | inl e ↦ omega (arith, e.len, h.index, k.index)
-      | inr e ↦ elim e [
-        | inl l ↦ absurd (no_item_at_probe (drop i kinds) l.more (OneLine l.line) h.front l.spelled)
-        | inr l ↦ absurd (no_item_at_probe (drop j kinds) l.more (OneLine l.line) k.front l.spelled)
-      ]
-    ]
-
--- its word
-front_probe : (rest : List Terminal) → IsProbeFront rest → (more : List Terminal) × (rest ≡ Probe ∷ more)
-front_probe (Probe ∷ Mark Equals ∷ more) p = absurd p
-front_probe (Probe ∷ more) p = (more, refl)
-front_probe _ p = absurd p
-
--- and what stands behind
-front_second : (rest : List Terminal) → IsProbeFront rest → 1 < length rest → (second : Terminal) × (more : List Terminal) × (rest ≡ Probe ∷ second ∷ more) × (step (WantEquals Probing) second ≡ None)
-unfolding step
-front_second (Probe ∷ Mark Equals ∷ more) p long = absurd p
-front_second (Probe ∷ []) p long = absurd (omega arith)
-front_second (Probe ∷ second ∷ more) p long = (second, more, refl, refl)
-front_second _ p long = absurd p
-
--- up to the word `probe` terminals can go on
-probe_goes_on : (kinds : List Terminal) (j : ℕ) → Probes kinds j → CanGoOn IsFile (take (j + 1) kinds)
-probe_goes_on kinds j k =
-    let front = front_probe (drop j kinds) k.front in
-    let text = Probe ∷ [] in
-    let e : take (j + 1) kinds ≡ lines_spelled k.lines ++ text =
-    front_taken kinds (lines_spelled k.lines ++ text) front.0 (j + 1) (k.whole ∙ ap (λ l. lines_spelled k.lines ++ l) front.1 ∙ sym (append_assoc (lines_spelled k.lines) text front.0)) (omega (arith, k.index, length-append (lines_spelled k.lines) text)) in
-    subst (CanGoOn IsFile) (sym e) (can_go_on k.lines text (WantEquals Probing) probe_runs tt)
-
--- with what stands behind `probe` they can't
-probe_ends : (kinds : List Terminal) (j : ℕ) → Probes kinds j → j + 1 < length kinds → ¬ CanGoOn IsFile (take (j + 2) kinds)
-probe_ends kinds j k some =
-    let front = front_second (drop j kinds) k.front (omega (arith, length-drop j kinds)) in
-    let text = Probe ∷ front.0 ∷ [] in
-    let e : take (j + 2) kinds ≡ lines_spelled k.lines ++ text =
-    front_taken kinds (lines_spelled k.lines ++ text) front.1 (j + 2) (k.whole ∙ ap (λ l. lines_spelled k.lines ++ l) front.2 ∙ sym (append_assoc (lines_spelled k.lines) text front.1)) (omega (arith, k.index, length-append (lines_spelled k.lines) text)) in
-    λ go. cant_go_on k.lines (Probe ∷ []) (WantEquals Probing) front.0 probe_runs tt front.3 (subst (CanGoOn IsFile) e go)
-
--- no refused terminal beside a probe line
-refused_probe : (kinds : List Terminal) (i j : ℕ) → IsRefusedAtToken kinds i → BeginsProbeLine kinds j → ⊥
-refused_probe kinds i j h probe =
-    let k = probes kinds j probe in
-    let a = h.in_item in
-    let behind : j + 1 ≤ i = not_before kinds i (j + 1) h.first (probe_goes_on kinds j k) in
-    let next : i ≡ j + 1 = omega (arith, h.first.within, λ (far : j + 2 ≤ i). probe_ends kinds j k (omega (arith, h.first.within, far)) (can_before IsFile kinds (j + 2) i far h.first.before)) in
-    elim (line_up a.lines k.lines (take h.begun (item_spelled a.item) ++ drop i kinds) (drop j kinds) (sym (behind_lines kinds i h.begun a) ∙ k.whole)) [
-      | inl e ↦ h.no_probe_line j (omega (arith, e.len, a.index, k.index, next)) next probe.probe
-      | inr e ↦ elim e [
-        | inl l ↦ part_front h.begun a.item (OneLine l.line) (drop i kinds) l.more a.more (omega (arith, l.within, a.index, k.index, behind)) l.spelled
-        | inr l ↦ no_item_at_probe (drop j kinds) l.more (OneLine l.line) k.front l.spelled
-      ]
-    ]
-
 -- ---- files and faults
 
 -- in a file every terminal can follow
@@ -290,55 +138,34 @@ file_deep file i short short_system h =
       ]
     ]
 
--- and none is a probe line
-file_probe : (file : File) (i : ℕ) → ¬ BeginsProbeLine (file_spelled file) i
-file_probe file i probe =
-    let h = probes (file_spelled file) i probe in
-    let last = System file.system file.ending in
-    let rest = drop i (file_spelled file) in
-    elim (line_up h.lines file.lines rest (item_spelled last) (sym h.whole)) [
-      | inl e ↦ no_item_at_probe rest [] last h.front (e.same ∙ sym (append-nil (item_spelled last)))
-      | inr e ↦ elim e [
-        | inl l ↦ no_item_at_probe rest l.more (OneLine l.line) h.front l.spelled
-        | inr l ↦ no_line_in_front l.line file.system file.ending l.more l.spelled
-      ]
-    ]
-
 -- a file has no fault
 pub no_fault : (file : File) (i : ℕ) (fault : FileFault) → AreShort file.lines → length (item_spelled (System file.system file.ending)) ≤ most_tokens → ¬ IsFaultAt (file_spelled file) i fault
 no_fault file i (Expected place) short short_system h = file_cant file i h.0.first
 no_fault file i (Array place) short short_system h = file_cant file i h.0.first
 no_fault file i (Wildcard place) short short_system h = file_cant file i h.0.first
 no_fault file i (TooDeep place) short short_system h = file_deep file i short short_system h.0
-no_fault file i (Unsupported place) short short_system h = file_probe file i h
 no_fault file i Memory short short_system h = h
 
 -- ---- one fault
 
 -- why there is a fault at an index
 abbrev Class : List Terminal → ℕ → Type 0
-Class kinds i = IsRefusedAtToken kinds i ⊎ (IsInItem kinds i most_tokens ⊎ BeginsProbeLine kinds i)
+Class kinds i = IsRefusedAtToken kinds i ⊎ IsInItem kinds i most_tokens
 
--- a refused terminal, an item of too many, or a probe line
+-- a refused terminal, or an item of too many
 class_of : (kinds : List Terminal) (i : ℕ) (fault : FileFault) → IsFaultAt kinds i fault → Class kinds i
 class_of kinds i (Expected place) h = inl h.0
 class_of kinds i (Array place) h = inl h.0
 class_of kinds i (Wildcard place) h = inl h.0
-class_of kinds i (TooDeep place) h = inr (inl h.0)
-class_of kinds i (Unsupported place) h = inr (inr h)
+class_of kinds i (TooDeep place) h = inr h.0
 class_of kinds i Memory h = absurd h
 
 -- they stand at one index
 one_place : (kinds : List Terminal) (i j : ℕ) → Class kinds i → Class kinds j → i ≡ j
 one_place kinds i j (inl h) (inl k) = cant_cant kinds i j h.first k.first
-one_place kinds i j (inl h) (inr (inl k)) = absurd (refused_deep kinds i j h k)
-one_place kinds i j (inl h) (inr (inr k)) = absurd (refused_probe kinds i j h k)
-one_place kinds i j (inr (inl h)) (inl k) = absurd (refused_deep kinds j i k h)
-one_place kinds i j (inr (inl h)) (inr (inl k)) = deep_deep kinds i j h k
-one_place kinds i j (inr (inl h)) (inr (inr k)) = absurd (deep_probe kinds i j h k)
-one_place kinds i j (inr (inr h)) (inl k) = absurd (refused_probe kinds j i k h)
-one_place kinds i j (inr (inr h)) (inr (inl k)) = absurd (deep_probe kinds j i k h)
-one_place kinds i j (inr (inr h)) (inr (inr k)) = probe_probe kinds i j h k
+one_place kinds i j (inl h) (inr k) = absurd (refused_deep kinds i j h k)
+one_place kinds i j (inr h) (inl k) = absurd (refused_deep kinds j i k h)
+one_place kinds i j (inr h) (inr k) = deep_deep kinds i j h k
 
 -- faults stand at one index
 pub one_index : (kinds : List Terminal) (i j : ℕ) (fault other : FileFault) → IsFaultAt kinds i fault → IsFaultAt kinds j other → i ≡ j
@@ -357,27 +184,18 @@ same_fault kinds i place (Expected p) (Expected q) h k there here = cc
 same_fault kinds i place (Expected p) (Array q) h k there here = absurd (h.1 k.1)
 same_fault kinds i place (Expected p) (Wildcard q) h k there here = absurd (h.2 k.1)
 same_fault kinds i place (Expected p) (TooDeep q) h k there here = absurd (refused_deep kinds i i h.0 k.0)
-same_fault kinds i place (Expected p) (Unsupported q) h k there here = absurd (refused_probe kinds i i h.0 k)
 same_fault kinds i place (Array p) (Expected q) h k there here = absurd (k.1 h.1)
 same_fault kinds i place (Array p) (Array q) h k there here = cc
 same_fault kinds i place (Array p) (Wildcard q) h k there here = absurd (no_wild_array kinds i h.1 k.1)
 same_fault kinds i place (Array p) (TooDeep q) h k there here = absurd (refused_deep kinds i i h.0 k.0)
-same_fault kinds i place (Array p) (Unsupported q) h k there here = absurd (refused_probe kinds i i h.0 k)
 same_fault kinds i place (Wildcard p) (Expected q) h k there here = absurd (k.2 h.1)
 same_fault kinds i place (Wildcard p) (Array q) h k there here = absurd (no_wild_array kinds i k.1 h.1)
 same_fault kinds i place (Wildcard p) (Wildcard q) h k there here = cc
 same_fault kinds i place (Wildcard p) (TooDeep q) h k there here = absurd (refused_deep kinds i i h.0 k.0)
-same_fault kinds i place (Wildcard p) (Unsupported q) h k there here = absurd (refused_probe kinds i i h.0 k)
 same_fault kinds i place (TooDeep p) (Expected q) h k there here = absurd (refused_deep kinds i i k.0 h.0)
 same_fault kinds i place (TooDeep p) (Array q) h k there here = absurd (refused_deep kinds i i k.0 h.0)
 same_fault kinds i place (TooDeep p) (Wildcard q) h k there here = absurd (refused_deep kinds i i k.0 h.0)
 same_fault kinds i place (TooDeep p) (TooDeep q) h k there here = cc
-same_fault kinds i place (TooDeep p) (Unsupported q) h k there here = absurd (deep_probe kinds i i h.0 k)
-same_fault kinds i place (Unsupported p) (Expected q) h k there here = absurd (refused_probe kinds i i k.0 h)
-same_fault kinds i place (Unsupported p) (Array q) h k there here = absurd (refused_probe kinds i i k.0 h)
-same_fault kinds i place (Unsupported p) (Wildcard q) h k there here = absurd (refused_probe kinds i i k.0 h)
-same_fault kinds i place (Unsupported p) (TooDeep q) h k there here = absurd (deep_probe kinds i i k.0 h)
-same_fault kinds i place (Unsupported p) (Unsupported q) h k there here = cc
 same_fault kinds i place Memory other h k there here = absurd h
 same_fault kinds i place _ Memory h k there here = absurd k
 

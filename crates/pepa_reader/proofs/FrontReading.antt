@@ -1,6 +1,6 @@
 -- What is read of the first tokens is read of them all.
 use Rattle.std.proofs.Common.{◌≡◌, ◌≢◌, ℕ, zero, suc, ◌+◌, ◌-◌, ◌<◌, ◌≤◌, min, List, [], ◌∷◌, ◌++◌, length, take, drop, refl, sym, ap, subst, ◌∙◌, append_assoc, append-nil, length-append, arith, Some}
-use Rattle.std.proofs.lemmas.List.{take-append-drop, length-drop, length-take-le, length-map, take-map}
+use Rattle.std.proofs.lemmas.List.{take-append-drop, length-drop, length-take-le, length-map}
 use Rattle.std.proofs.Math.ListN.{drop_of_length-le}
 use Rattle.token_grammar.specs.declared.terminal.Terminal.{Terminal}
 use Rattle.token_grammar.specs.declared.terminal.Terminal.TheVariants.{End}
@@ -9,6 +9,7 @@ use Rattle.pepa_reader.specs.Grammar.{item_spelled}
 use Rattle.pepa_reader.specs.FileAnswers.{most_tokens}
 use Rattle.token_grammar.specs.Terminals.{terminals, terminal_of}
 use Rattle.token_grammar.specs.Cursors.{IsSpelledFrom}
+use Rattle.token_grammar.proofs.Places.{front_kinds}
 use Rattle.pepa_reader.specs.Reading.{CannotGoOn, Stops}
 use Rattle.pepa_reader.specs.ItemReading.{IsEnded, IsItemRead, IsCause, IsItemFault}
 use Rattle.pepa_reader.specs.declared.items.ItemRead.{ItemRead}
@@ -65,10 +66,6 @@ stops_inside kinds at i text state ended within h ran undone = omega (arith, λ 
     ran_to_end past = ap (run start) (sym (drop_in_left ended.0 (End ∷ []) at inside) ∙ ap (drop at) (sym ended.1) ∙ h.whole ∙ ap (λ l. text ++ l) (drop_of_length-le kinds past) ∙ append-nil text) ∙ ran
 
 -- ---- what is read of the first tokens
-
--- the terminals of the first tokens
-front_kinds : (input : List ℕ) (tokens few : List Token) (n : ℕ) → few ≡ take n tokens → terminals input few ≡ take n (terminals input tokens)
-front_kinds input tokens few n e = ap (terminals input) e ∙ sym (take-map (terminal_of input) n tokens)
 
 -- as many terminals as tokens
 kinds_len : (input : List ℕ) (tokens : List Token) → length (terminals input tokens) ≡ length tokens

@@ -1,3 +1,4 @@
+pub mod MachineProbes
 pub mod MachineRuns
 pub mod MachineStates
 pub mod MachineTexts
@@ -5,6 +6,7 @@ pub mod MachineEnds
 pub mod ItemLaws
 pub mod RateReading
 pub mod LineReading
+pub mod ProbeLineReading
 pub mod TokenEnds
 pub mod FrontReading
 pub mod FaultReading

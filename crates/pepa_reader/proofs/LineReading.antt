@@ -2,20 +2,21 @@
 use Rattle.std.proofs.Common.{◌≡◌, ℕ, ◌+◌, List, [], ◌∷◌, drop, refl, ap, ◌∙◌, Some, None, Err, arith}
 use Rattle.pepa_lexer.specs.declared.kinds.Sign.TheVariants.{Equals, Semicolon}
 use Rattle.token_grammar.specs.declared.terminal.Terminal.{Terminal}
-use Rattle.token_grammar.specs.declared.terminal.Terminal.TheVariants.{Capital, Mark}
+use Rattle.token_grammar.specs.declared.terminal.Terminal.TheVariants.{Small, Capital, Mark}
 use Rattle.fault_ends.specs.declared.end.End.TheVariants.{Fault, Memory}
 use Rattle.token_grammar.proofs.Runs.{halts_here, halts_after}
 use Rattle.token_grammar.specs.Machines.{runs}
+use Rattle.token_grammar.specs.SmallNames.{SmallName, Plain, Probing, small_spelled}
 use Rattle.pepa_reader.specs.declared.rates.RateRead.{RateRead}
 use Rattle.pepa_reader.specs.declared.items.Item.TheVariants.{Rate}
 use Rattle.pepa_reader.specs.declared.items.Item.TheVariants as items
 use Rattle.pepa_reader.specs.declared.processes.ProcessRead.{ProcessRead}
-use Rattle.pepa_reader.specs.Grammar.{SmallName, Plain, Probing, small_spelled, OneLine, RateNamed, ProcessNamed}
+use Rattle.pepa_reader.specs.Grammar.{OneLine, RateNamed, ProcessNamed}
 use Rattle.pepa_reader.specs.Trees.{rate_tree, process_tree}
 use Rattle.pepa_reader.specs.Machine.{InLine, Whole, OfLine, Want, WantEquals, WantFactor, step, run, start, behind_rate, behind_process}
 use Rattle.token_grammar.specs.Cursors.{Begins, IsAt, Expects, PartEnd}
 use Rattle.pepa_reader.specs.Reading.{CannotGoOn, IsRate, ReadsRate, EndsProcess, IsProcess, ReadsProcess}
-use Rattle.pepa_reader.specs.ItemReading.{IsLineHead, ReadsItem, IsItemRead}
+use Rattle.pepa_reader.specs.ItemReading.{IsRateHead, IsLineHead, ReadsItem, IsItemRead}
 use Rattle.token_grammar.proofs.Spelled.{spelled_append}
 use Rattle.pepa_reader.proofs.MachineRuns.{rate_runs, process_runs}
 use Rattle.pepa_reader.proofs.RateReading.{refuses_behind_rate, undone_behind_rate}
@@ -23,54 +24,49 @@ use Rattle.pepa_reader.proofs.ProcessStates.{refuses_behind_process, undone_behi
 
 -- ---- rate lines
 
--- a small name begins a rate line
-name_runs : (name : SmallName) → run start (small_spelled name ∷ []) ≡ Some (WantEquals name)
+-- a small name begins a rate line, and after its `=` a rate is wanted
+rate_head_runs : (name : SmallName) → run start (small_spelled name ∷ Mark Equals ∷ []) ≡ Some (WantFactor None None (Whole (OfLine name)))
 unfolding runs step
-name_runs Plain = refl
-name_runs Probing = refl
+rate_head_runs Plain = refl
+rate_head_runs Probing = refl
 
--- behind the `=` a rate is wanted
-equals_runs : (name : SmallName) → run (WantEquals name) (Mark Equals ∷ []) ≡ Some (WantFactor None None (Whole (OfLine name)))
+-- after a name that isn't `probe` only `=` can follow
+name_runs : run start (Small ∷ []) ≡ Some (WantEquals Plain)
 unfolding runs step
-equals_runs name = refl
+name_runs = refl
 
--- behind the name only `=` can follow
-refuses_behind_name : (name : SmallName) (rest : List Terminal) → ¬ Begins rest (Mark Equals) → CannotGoOn (WantEquals name) rest
+refuses_behind_name : (rest : List Terminal) → ¬ Begins rest (Mark Equals) → CannotGoOn (WantEquals Plain) rest
 unfolding step
-refuses_behind_name name [] other = tt
-refuses_behind_name name (Mark Equals ∷ more) other = absurd (other refl)
-refuses_behind_name name (_ ∷ more) other = refl
+refuses_behind_name [] other = tt
+refuses_behind_name (Mark Equals ∷ more) other = absurd (other refl)
+refuses_behind_name (_ ∷ more) other = refl
 
 -- no `=` behind the name
-pub no_equals : (kinds : List Terminal) (at equals : ℕ) (name : SmallName) (fault : PartEnd) → IsAt kinds at equals (small_spelled name) → Expects kinds equals (Mark Equals) (Err fault) → ReadsItem kinds at (Err fault)
-no_equals kinds at equals name (Fault i) named e =
-    rw e.0 (halts_after start (WantEquals name) named.spelled (name_runs name) (halts_here tt (refuses_behind_name name (drop equals kinds) e.1)))
-no_equals kinds at equals name Memory named e = tt
+pub no_equals : (kinds : List Terminal) (at equals : ℕ) (fault : PartEnd) → IsAt kinds at equals Small → Expects kinds equals (Mark Equals) (Err fault) → ReadsItem kinds at (Err fault)
+no_equals kinds at equals (Fault i) named e = rw e.0 (halts_after start (WantEquals Plain) named.spelled name_runs (halts_here tt (refuses_behind_name (drop equals kinds) e.1)))
+no_equals kinds at equals Memory named e = tt
 
 -- no rate behind the `=`
-pub line_rate_fails : (kinds : List Terminal) (at equals from : ℕ) (name : SmallName) (fault : PartEnd) → IsAt kinds at equals (small_spelled name) → IsAt kinds equals from (Mark Equals) → ReadsRate kinds from (Err fault) → ReadsItem kinds at (Err fault)
-line_rate_fails kinds at equals from name (Fault i) named is_equals rate =
-    halts_after start (WantEquals name) named.spelled (name_runs name)
-    (halts_after (WantEquals name) (WantFactor None None (Whole (OfLine name))) is_equals.spelled (equals_runs name) (rate (OfLine name)))
-line_rate_fails kinds at equals from name Memory named is_equals rate = tt
+pub line_rate_fails : (kinds : List Terminal) (at from : ℕ) (name : SmallName) (fault : PartEnd) → IsRateHead kinds at from name → ReadsRate kinds from (Err fault) → ReadsItem kinds at (Err fault)
+line_rate_fails kinds at from name (Fault i) head rate = halts_after start (WantFactor None None (Whole (OfLine name))) head (rate_head_runs name) (rate (OfLine name))
+line_rate_fails kinds at from name Memory head rate = tt
 
 -- no `;` behind the rate
-pub rate_line_stays : (kinds : List Terminal) (at equals from : ℕ) (name : SmallName) (read : RateRead) (fault : PartEnd) → IsAt kinds at equals (small_spelled name) → IsAt kinds equals from (Mark Equals) → IsRate kinds from read → Expects kinds read.next (Mark Semicolon) (Err fault) → ReadsItem kinds at (Err fault)
-rate_line_stays kinds at equals from name read (Fault i) named is_equals rate e =
+pub rate_line_stays : (kinds : List Terminal) (at from : ℕ) (name : SmallName) (read : RateRead) (fault : PartEnd) → IsRateHead kinds at from name → IsRate kinds from read → Expects kinds read.next (Mark Semicolon) (Err fault) → ReadsItem kinds at (Err fault)
+rate_line_stays kinds at from name read (Fault i) head rate e =
     let place = OfLine name in
-    rw e.0 (halts_after start (WantEquals name) named.spelled (name_runs name)
-    (halts_after (WantEquals name) (WantFactor None None (Whole place)) is_equals.spelled (equals_runs name)
+    rw e.0 (halts_after start (WantFactor None None (Whole place)) head (rate_head_runs name)
     (halts_after (WantFactor None None (Whole place)) (behind_rate rate.rate place) rate.spelled (rate_runs rate.rate place)
-    (halts_here (undone_behind_rate rate.rate place) (refuses_behind_rate rate.rate place (drop read.next kinds) rate.ends e.1)))))
-rate_line_stays kinds at equals from name read Memory named is_equals rate e = tt
+    (halts_here (undone_behind_rate rate.rate place) (refuses_behind_rate rate.rate place (drop read.next kinds) rate.ends e.1))))
+rate_line_stays kinds at from name read Memory head rate e = tt
 
 -- a whole rate line
-pub is_rate_line : (kinds : List Terminal) (at equals from next : ℕ) (name : SmallName) (read : RateRead) → IsAt kinds at equals (small_spelled name) → IsAt kinds equals from (Mark Equals) → IsRate kinds from read → IsAt kinds read.next next (Mark Semicolon) → IsItemRead kinds at (record { item = Rate (record { at = at; rate = read.tree }); next = next })
-is_rate_line kinds at equals from next name read named is_equals rate closing =
-    let front : from ≡ at + 2 = omega (arith, named.spelled.index, is_equals.spelled.index) in
+pub is_rate_line : (kinds : List Terminal) (at from next : ℕ) (name : SmallName) (read : RateRead) → IsRateHead kinds at from name → IsRate kinds from read → IsAt kinds read.next next (Mark Semicolon) → IsItemRead kinds at (record { item = Rate (record { at = at; rate = read.tree }); next = next })
+is_rate_line kinds at from next name read head rate closing =
+    let front : from ≡ at + 2 = omega (arith, head.index) in
     record {
       item = OneLine (RateNamed name rate.rate);
-      spelled = spelled_append named.spelled (spelled_append is_equals.spelled (spelled_append rate.spelled closing.spelled));
+      spelled = spelled_append head (spelled_append rate.spelled closing.spelled);
       tree = (refl, rate.tree ∙ ap (λ n. rate_tree n rate.rate) front);
     }
 

@@ -1,13 +1,17 @@
 -- Each unfinished state of the machine can be completed to an item, and the end of the text always ends one.
 use Rattle.std.proofs.Common.{◌≡◌, List, [], ◌∷◌, ◌++◌, Option, Some, None, refl, sym, subst, ◌∙◌}
 use Rattle.std.proofs.lemmas.Option.{same_Some}
-use Rattle.pepa_lexer.specs.declared.kinds.Sign.TheVariants.{Equals, Semicolon, Closing, Comma, Dot, Greater, OpeningBrace, ClosingBrace}
+use Rattle.pepa_lexer.specs.declared.kinds.Sign.TheVariants.{Equals, Semicolon, Closing, Comma, Dot, Greater, OpeningBrace, ClosingBrace, DoubleColon}
 use Rattle.token_grammar.specs.declared.terminal.Terminal.{Terminal}
 use Rattle.token_grammar.specs.declared.terminal.Terminal.TheVariants.{Tau, Capital, Number, Mark, End}
-use Rattle.token_grammar.proofs.Runs.{run_step}
+use Rattle.token_grammar.proofs.Runs.{run_step, run_along}
 use Rattle.token_grammar.specs.Machines.{runs}
-use Rattle.pepa_reader.specs.Grammar.{Word, Internal, Factor, Amount, Bracketed, Rate, Computed, Sharing, Hidden, OnePrefix, Hiding, Prefix, Activity, Constant, Grouped, RateNamed, ProcessNamed, Open, Closed, Item, OneLine, System}
-use Rattle.pepa_reader.specs.Machine.{Pending, ChosenSoFar, Joining, Outer, InLine, InSystem, InBrackets, RatePlace, OfLine, OfActivity, Summing, Multiplying, RateOuter, Whole, InRateBrackets, SetPlace, OfCooperation, OfHiding, ParserState, Want, After, WantEquals, WantComma, WantFactor, AfterFactor, AfterTop, WantDot, WantBrace, AtSet, AfterWord, WantWord, WantEnd, Done, whole_process, whole_sum, after, closes_rate, closes_set, step, run, IsUndone}
+use Rattle.pepa_reader.specs.Grammar.{Word, Internal, Factor, Amount, Bracketed, Rate, Computed, Sharing, Hidden, OnePrefix, Hiding, Prefix, Activity, Constant, Grouped, RateNamed, ProcessNamed, ProbeTarget, OnConstant, ProbeWritten, Open, Closed, Item, OneLine, System}
+use Rattle.token_grammar.specs.SmallNames.{Plain, Probing}
+use Rattle.probe_reader.specs.ProbeMachine.{ProbeState, AfterPart, Outermost, whole_alternatives, probe_step, probe_start}
+use Rattle.probe_reader.proofs.ProbeEnds.{completed}
+use Rattle.pepa_reader.proofs.MachineProbes.{runs_inside, no_end_in_line}
+use Rattle.pepa_reader.specs.Machine.{Pending, ChosenSoFar, Joining, Outer, InLine, InSystem, InBrackets, RatePlace, OfLine, OfActivity, Summing, Multiplying, RateOuter, Whole, InRateBrackets, SetPlace, OfCooperation, OfHiding, ParserState, Want, After, WantEquals, WantComma, WantFactor, AfterFactor, AfterTop, WantDot, WantBrace, AtSet, AfterWord, WantWord, WantEnd, Done, whole_process, whole_sum, after, closes_rate, closes_set, WantColons, InProbe, step, run, IsUndone}
 use Rattle.pepa_reader.proofs.MachineRuns.{closes_after_factor, closes_words, closes_no_words}
 
 -- ---- what completes an item
@@ -89,12 +93,25 @@ at_set_ends place = set_ends (AtSet place) place [] (closes_no_words place)
 after_word_ends : (place : SetPlace) (words : List Word) → Ends (AfterWord place words)
 after_word_ends place words = set_ends (AfterWord place words) place words (closes_words place words)
 
+-- an expression is completed, and then its line
+in_probe_ends : (target : ProbeTarget) (state : ProbeState) → Ends (InProbe target state)
+unfolding step probe_step
+in_probe_ends target state =
+    let done = completed state in
+    let whole : ProbeState = AfterPart done.postfixed done.guards done.sequence done.alternatives Outermost in
+    let last : Ends (InProbe target whole) =
+    step_ends (InProbe target whole) (Done (OneLine (ProbeWritten target (whole_alternatives done.postfixed done.guards done.sequence done.alternatives)))) (Mark Semicolon) refl (done_ends _) in
+    (done.more ++ last.0, last.1, run_along step (InProbe target state) (InProbe target whole) done.more last.0 (runs_inside target done.more state whole done.ran) ∙ last.2)
+
 -- each unfinished state can be completed to an item
 pub ends : (state : ParserState) → IsUndone state → (more : List Terminal) × (item : Item) × (run state more ≡ Some (Done item))
 unfolding step
 ends (Want pending chosen joining outer) undone = want_ends pending chosen joining outer
 ends (After hidden chosen joining outer) undone = after_hidden_ends outer hidden chosen joining
-ends (WantEquals name) undone = step_ends (WantEquals name) (WantFactor None None (Whole (OfLine name))) (Mark Equals) refl (want_factor_ends None None (Whole (OfLine name)))
+ends (WantEquals Plain) undone = step_ends (WantEquals Plain) (WantFactor None None (Whole (OfLine Plain))) (Mark Equals) refl (want_factor_ends None None (Whole (OfLine Plain)))
+ends (WantEquals Probing) undone = step_ends (WantEquals Probing) (WantFactor None None (Whole (OfLine Probing))) (Mark Equals) refl (want_factor_ends None None (Whole (OfLine Probing)))
+ends WantColons undone = step_ends WantColons (InProbe OnConstant probe_start) (Mark DoubleColon) refl (in_probe_ends OnConstant probe_start)
+ends (InProbe target state) undone = in_probe_ends target state
 ends (WantComma word pending chosen joining outer) undone = step_ends (WantComma word pending chosen joining outer) (WantFactor None None (Whole (OfActivity word pending chosen joining outer))) (Mark Comma) refl (want_factor_ends None None (Whole (OfActivity word pending chosen joining outer)))
 ends (WantFactor summing multiplying outer) undone = want_factor_ends summing multiplying outer
 ends (AfterFactor factor summing multiplying outer) undone = after_factor_ends outer factor summing multiplying
@@ -115,7 +132,7 @@ made_item item next h = (item, sym (same_Some (Done item) next h))
 
 -- only a whole system takes the end, and then it is an item
 pub end_ends : (state next : ParserState) → step state End ≡ Some next → (item : Item) × (next ≡ Done item)
-unfolding step
+unfolding step probe_step
 end_ends (After hidden chosen joining InSystem) next h = made_item (System (whole_process joining chosen hidden) Open) next h
 end_ends (WantEnd process) next h = made_item (System process Closed) next h
 end_ends (After hidden chosen joining _) next h = absurd (cc)
@@ -128,4 +145,10 @@ end_ends (AtSet (OfCooperation process outer)) next h = absurd (cc)
 end_ends (AtSet _) next h = absurd (cc)
 end_ends (AfterWord (OfCooperation process outer) words) next h = absurd (cc)
 end_ends (AfterWord _ words) next h = absurd (cc)
+end_ends (WantEquals Plain) next h = absurd (cc)
+end_ends (WantEquals Probing) next h = absurd (cc)
+end_ends (InProbe target state) next h = none_made (sym (no_end_in_line target state) ∙ h)
+  where
+    none_made : None ≡ Some next → (item : Item) × (next ≡ Done item)
+    none_made e = absurd (cc)
 end_ends _ next h = absurd (cc)

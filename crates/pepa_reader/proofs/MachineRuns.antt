@@ -5,8 +5,10 @@ use Rattle.token_grammar.specs.declared.terminal.Terminal.{Terminal}
 use Rattle.token_grammar.specs.declared.terminal.Terminal.TheVariants.{Mark, End}
 use Rattle.token_grammar.proofs.Runs.{run_step}
 use Rattle.token_grammar.specs.Machines.{runs}
-use Rattle.pepa_reader.specs.Grammar.{Plain, Probing, Word, Named, Internal, Added, Subtracted, Multiplied, Divided, Sum, OneProduct, Summed, Product, OneFactor, Produced, Factor, Amount, Naming, Bracketed, Rate, Passive, Weighted, Computed, Cooperation, Parallel, Sharing, Process, OneChoice, Cooperating, Choice, OneHidden, Chosen, Hidden, OnePrefix, Hiding, Prefix, Activity, Constant, Grouped, Line, RateNamed, ProcessNamed, Open, Closed, Item, OneLine, System, word_spelled, further_words, words_spelled, sum_spelled, product_spelled, factor_spelled, rate_spelled, cooperation_spelled, process_spelled, choice_spelled, hidden_spelled, prefix_spelled, line_spelled, item_spelled}
+use Rattle.token_grammar.specs.SmallNames.{Plain, Probing}
+use Rattle.pepa_reader.specs.Grammar.{Word, Named, Internal, Added, Subtracted, Multiplied, Divided, Sum, OneProduct, Summed, Product, OneFactor, Produced, Factor, Amount, Naming, Bracketed, Rate, Passive, Weighted, Computed, Cooperation, Parallel, Sharing, Process, OneChoice, Cooperating, Choice, OneHidden, Chosen, Hidden, OnePrefix, Hiding, Prefix, Activity, Constant, Grouped, Line, RateNamed, ProcessNamed, ProbeWritten, Open, Closed, Item, OneLine, System, word_spelled, further_words, words_spelled, sum_spelled, product_spelled, factor_spelled, rate_spelled, cooperation_spelled, process_spelled, choice_spelled, hidden_spelled, prefix_spelled, line_spelled, item_spelled}
 use Rattle.pepa_reader.specs.Machine.{Pending, ChosenSoFar, Joining, Outer, InLine, InSystem, InBrackets, RatePlace, OfLine, OfActivity, Summing, Multiplying, RateOuter, Whole, InRateBrackets, SetPlace, OfCooperation, OfHiding, ParserState, Want, After, WantComma, WantFactor, AfterFactor, WantDot, AtSet, AfterWord, WantWord, WantEnd, Done, whole_process, whole_sum, after, set_read, closes, closes_rate, closes_set, step, run, start, behind_product, behind_sum, behind_rate, behind_choice, behind_process}
+use Rattle.pepa_reader.proofs.MachineProbes.{probe_line_runs}
 
 -- ---- steps behind whole parts
 
@@ -311,6 +313,7 @@ line_runs (RateNamed Probing rate) =
 line_runs (ProcessNamed process) =
     process_onward process InLine (Mark Semicolon ∷ [])
     ∙ run_step step (behind_process process InLine) (Done (OneLine (ProcessNamed process))) (Mark Semicolon) [] (process_closes process InLine (Mark Semicolon) (Done (OneLine (ProcessNamed process))) refl)
+line_runs (ProbeWritten target alternatives) = probe_line_runs target alternatives
 
 -- an item is read to its end
 pub item_runs : (item : Item) → run start (item_spelled item) ≡ Some (Done item)

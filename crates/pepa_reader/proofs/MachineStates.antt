@@ -1,11 +1,13 @@
 -- The states that the machine comes to from its start. Two forms are never met: behind a word of a set, or behind a comma, with
 -- no word read.
 use Rattle.std.proofs.Common.{◌≡◌, List, [], ◌∷◌, ◌++◌, Option, Some, None, subst}
-use Rattle.pepa_lexer.specs.declared.kinds.Sign.TheVariants.{Equals, Semicolon, Opening, Closing, Comma, Dot, Plus, Minus, Star, Slash, Less, Greater, Or, OpeningBrace, ClosingBrace}
+use Rattle.pepa_lexer.specs.declared.kinds.Sign.TheVariants.{Equals, Semicolon, Opening, Closing, Comma, Dot, Plus, Minus, Star, Slash, Less, Greater, Or, OpeningBrace, ClosingBrace, DoubleColon}
 use Rattle.token_grammar.specs.declared.terminal.Terminal.{Terminal}
 use Rattle.token_grammar.specs.declared.terminal.Terminal.TheVariants.{Small, Probe, Tau, Capital, Top, Mark, End}
-use Rattle.pepa_reader.specs.Grammar.{Plain, Probing, Word, Named, Internal, ProductSign, Multiplied, Sum, Product, OneFactor, Factor, Amount, Rate, Computed, Process, Hidden, OnePrefix, Prefix, Activity, Constant, Grouped}
-use Rattle.pepa_reader.specs.Machine.{Pending, ChosenSoFar, Joining, Outer, InLine, InSystem, InBrackets, RatePlace, OfLine, OfActivity, Summing, Multiplying, RateOuter, Whole, InRateBrackets, SetPlace, OfCooperation, OfHiding, ParserState, Want, After, WantEquals, WantComma, WantFactor, AfterFactor, AfterTop, WantDot, WantBrace, AtSet, AfterWord, WantWord, whole_process, whole_sum, after, starts, want_step, names_line, closes, after_step, weighted_step, want_factor_step, closes_rate, closes_sum, after_factor_step, closes_set, step}
+use Rattle.token_grammar.specs.SmallNames.{Plain, Probing}
+use Rattle.pepa_reader.specs.Grammar.{Word, Named, Internal, ProductSign, Multiplied, Sum, Product, OneFactor, Factor, Amount, Rate, Computed, Process, Hidden, OnePrefix, Prefix, Activity, Constant, Grouped, ProbeTarget, Overall}
+use Rattle.probe_reader.specs.ProbeMachine.{ProbeState, AfterPart, Outermost, probe_step, probe_start}
+use Rattle.pepa_reader.specs.Machine.{Pending, ChosenSoFar, Joining, Outer, InLine, InSystem, InBrackets, RatePlace, OfLine, OfActivity, Summing, Multiplying, RateOuter, Whole, InRateBrackets, SetPlace, OfCooperation, OfHiding, ParserState, Want, After, WantEquals, WantComma, WantFactor, AfterFactor, AfterTop, WantDot, WantBrace, AtSet, AfterWord, WantWord, whole_process, whole_sum, after, starts, want_step, names_line, closes, after_step, weighted_step, want_factor_step, closes_rate, closes_sum, after_factor_step, closes_set, WantColons, InProbe, closes_probe, probe_goes_on_or, in_probe_step, after_probe_step, step}
 
 -- behind a word of a set, or a comma, at least one word has been read; the machine comes to no other states
 abbrev pub HasWord : List Word → Type 0
@@ -95,6 +97,23 @@ has_word : (words : List Word) (word : Word) → HasWord (words ++ word ∷ [])
 has_word [] word = tt
 has_word (first ∷ words) word = tt
 
+-- what goes on with an expression, or closes it
+goes_on_met : (target : ProbeTarget) (closed : Option ParserState) (goes : Option ProbeState) → IsMetIf closed → IsMetIf (probe_goes_on_or target closed goes)
+goes_on_met target closed (Some next) met = tt
+goes_on_met target closed None met = met
+
+closes_probe_met : (target : ProbeTarget) (state : ProbeState) (terminal : Terminal) → IsMetIf (closes_probe target state terminal)
+closes_probe_met target (AfterPart postfixed guards sequence alternatives Outermost) (Mark Semicolon) = tt
+closes_probe_met target _ _ = tt
+
+in_probe_met : (target : ProbeTarget) (state : ProbeState) (terminal : Terminal) → IsMetIf (in_probe_step target state terminal)
+in_probe_met target state terminal = goes_on_met target (closes_probe target state terminal) (probe_step state terminal) (closes_probe_met target state terminal)
+
+after_probe_met : (terminal : Terminal) → IsMetIf (after_probe_step terminal)
+after_probe_met (Mark Equals) = tt
+after_probe_met Capital = tt
+after_probe_met terminal = in_probe_met Overall probe_start terminal
+
 -- whatever step there is leads to a state that is met
 step_met : (state : ParserState) (terminal : Terminal) → IsMet state → IsMetIf (step state terminal)
 unfolding step
@@ -112,7 +131,11 @@ step_met (AfterWord place words) terminal met = closes_set_met place words termi
 step_met (WantWord place words) Small met = has_word words (Named Plain)
 step_met (WantWord place words) Probe met = has_word words (Named Probing)
 step_met (WantWord place words) Tau met = has_word words Internal
-step_met (WantEquals name) (Mark Equals) met = tt
+step_met (WantEquals Plain) (Mark Equals) met = tt
+step_met (WantEquals Plain) _ met = tt
+step_met (WantEquals Probing) terminal met = after_probe_met terminal
+step_met WantColons (Mark DoubleColon) met = tt
+step_met (InProbe target state) terminal met = in_probe_met target state terminal
 step_met (WantComma word pending chosen joining outer) (Mark Comma) met = tt
 step_met (WantDot word rate pending chosen joining outer) (Mark Dot) met = tt
 step_met (WantBrace hidden chosen joining outer) (Mark OpeningBrace) met = tt

@@ -1,12 +1,15 @@
 -- The machine reads nothing but what the grammar spells: each state says what has been read.
 use Rattle.std.proofs.Common.{◌≡◌, List, [], ◌∷◌, ◌++◌, Option, Some, None, refl, ap, sym, subst, ◌∙◌, append_assoc, append-nil}
 use Rattle.std.proofs.lemmas.Option.{same_Some, option_and_then_some}
-use Rattle.pepa_lexer.specs.declared.kinds.Sign.TheVariants.{Equals, Semicolon, Opening, Closing, Comma, Dot, Plus, Minus, Star, Slash, Less, Greater, Or, OpeningBrace, ClosingBrace}
+use Rattle.pepa_lexer.specs.declared.kinds.Sign.TheVariants.{Equals, Semicolon, Opening, Closing, Comma, Dot, Plus, Minus, Star, Slash, Less, Greater, Or, OpeningBrace, ClosingBrace, DoubleColon}
 use Rattle.token_grammar.specs.declared.terminal.Terminal.{Terminal}
 use Rattle.token_grammar.specs.declared.terminal.Terminal.TheVariants.{Small, Probe, Tau, Capital, Top, Number, Mark, End}
 use Rattle.token_grammar.specs.Machines.{runs}
-use Rattle.pepa_reader.specs.Grammar.{Plain, Probing, Word, Named, Internal, Added, Subtracted, ProductSign, Multiplied, Divided, Sum, Product, OneFactor, Factor, Amount, Naming, Bracketed, Rate, Passive, Weighted, Computed, Parallel, Process, Hidden, OnePrefix, Prefix, Activity, Constant, Grouped, RateNamed, ProcessNamed, Open, Closed, OneLine, System, small_spelled, word_spelled, further_words, words_spelled, sum_sign_spelled, product_sign_spelled, sum_spelled, product_spelled, factor_spelled, rate_spelled, cooperation_spelled, process_spelled, choice_spelled, hidden_spelled, prefix_spelled, item_spelled}
-use Rattle.pepa_reader.specs.Machine.{Pending, ChosenSoFar, Joining, Outer, InLine, InSystem, InBrackets, RatePlace, OfLine, OfActivity, Summing, Multiplying, RateOuter, Whole, InRateBrackets, SetPlace, OfCooperation, OfHiding, ParserState, Want, After, WantEquals, WantComma, WantFactor, AfterFactor, AfterTop, WantDot, WantBrace, AtSet, AfterWord, WantWord, WantEnd, Done, chosen_with, whole_process, product_with, whole_sum, after, set_read, starts, want_step, names_line, closes, after_step, weighted_step, top_step, want_factor_step, closes_rate, closes_sum, after_factor_step, takes_word, closes_set, at_set_step, after_word_step, step, run, start}
+use Rattle.token_grammar.specs.SmallNames.{Plain, Probing, small_spelled}
+use Rattle.pepa_reader.specs.Grammar.{Word, Named, Internal, Added, Subtracted, ProductSign, Multiplied, Divided, Sum, Product, OneFactor, Factor, Amount, Naming, Bracketed, Rate, Passive, Weighted, Computed, Parallel, Process, Hidden, OnePrefix, Prefix, Activity, Constant, Grouped, RateNamed, ProcessNamed, ProbeTarget, Overall, OnConstant, ProbeWritten, Open, Closed, OneLine, System, target_spelled, word_spelled, further_words, words_spelled, sum_sign_spelled, product_sign_spelled, sum_spelled, product_spelled, factor_spelled, rate_spelled, cooperation_spelled, process_spelled, choice_spelled, hidden_spelled, prefix_spelled, item_spelled}
+use Rattle.probe_reader.specs.ProbeMachine.{ProbeState, AfterPart, Outermost, whole_alternatives, probe_step, probe_start}
+use Rattle.probe_reader.proofs.ProbeTexts.{text_of_probe, alternatives_with_text, step_reads as probe_step_reads}
+use Rattle.pepa_reader.specs.Machine.{Pending, ChosenSoFar, Joining, Outer, InLine, InSystem, InBrackets, RatePlace, OfLine, OfActivity, Summing, Multiplying, RateOuter, Whole, InRateBrackets, SetPlace, OfCooperation, OfHiding, ParserState, Want, After, WantEquals, WantComma, WantFactor, AfterFactor, AfterTop, WantDot, WantBrace, AtSet, AfterWord, WantWord, WantEnd, Done, chosen_with, whole_process, product_with, whole_sum, after, set_read, starts, want_step, names_line, closes, after_step, weighted_step, top_step, want_factor_step, closes_rate, closes_sum, after_factor_step, takes_word, closes_set, at_set_step, after_word_step, WantColons, InProbe, closes_probe, probe_goes_on_or, in_probe_step, after_probe_step, step, run, start}
 use Rattle.pepa_reader.proofs.MachineStates.{HasWord, IsMet, step_keeps}
 
 -- ---- what has been read to come to a state
@@ -70,6 +73,8 @@ abbrev pub text_of_state : ParserState → List Terminal
 text_of_state (Want pending chosen joining outer) = want_text pending chosen joining outer []
 text_of_state (After hidden chosen joining outer) = outer_text outer ++ (joining_text joining ++ (chosen_text chosen ++ hidden_spelled hidden))
 text_of_state (WantEquals name) = small_spelled name ∷ []
+text_of_state WantColons = Probe ∷ Capital ∷ []
+text_of_state (InProbe target state) = Probe ∷ (target_spelled target ++ text_of_probe state)
 text_of_state (WantComma word pending chosen joining outer) = want_text pending chosen joining outer (Mark Opening ∷ word_spelled word ∷ [])
 text_of_state (WantFactor summing multiplying outer) = rate_outer_text outer ++ (summing_text summing ++ multiplying_text multiplying)
 text_of_state (AfterFactor factor summing multiplying outer) = rate_outer_text outer ++ (summing_text summing ++ (multiplying_text multiplying ++ factor_spelled factor))
@@ -235,12 +240,35 @@ after_word_reads : (place : SetPlace) (words : List Word) (terminal : Terminal) 
 after_word_reads place words (Mark Comma) next h = reads (WantWord place words) next _ h (simp append_assoc)
 after_word_reads place words terminal next h = closes_set_reads place words terminal next h ∙ simp append_assoc
 
+-- what closes an expression
+closes_probe_reads : (target : ProbeTarget) (state : ProbeState) (terminal : Terminal) (next : ParserState) → closes_probe target state terminal ≡ Some next → text_of_state next ≡ text_of_state (InProbe target state) ++ terminal ∷ []
+closes_probe_reads target (AfterPart postfixed guards sequence alternatives Outermost) (Mark Semicolon) next h = reads (Done (OneLine (ProbeWritten target (whole_alternatives postfixed guards sequence alternatives)))) next _ h (simp (append_assoc, alternatives_with_text postfixed guards sequence alternatives))
+closes_probe_reads target _ _ next h = cc
+
+-- what goes on with it, or closes it
+in_probe_reads : (target : ProbeTarget) (state : ProbeState) (terminal : Terminal) (next : ParserState) → in_probe_step target state terminal ≡ Some next → text_of_state next ≡ text_of_state (InProbe target state) ++ terminal ∷ []
+in_probe_reads target state terminal next h = by_step (probe_step state terminal) refl h
+  where
+    by_step : (goes : Option ProbeState) → probe_step state terminal ≡ goes → probe_goes_on_or target (closes_probe target state terminal) goes ≡ Some next → text_of_state next ≡ text_of_state (InProbe target state) ++ terminal ∷ []
+    by_step (Some more) made h' = reads (InProbe target more) next _ h' (ap (λ l. Probe ∷ (target_spelled target ++ l)) (probe_step_reads state terminal more made) ∙ simp append_assoc)
+    by_step None made h' = closes_probe_reads target state terminal next h'
+
+-- after the word `probe`
+after_probe_reads : (terminal : Terminal) (next : ParserState) → after_probe_step terminal ≡ Some next → text_of_state next ≡ Probe ∷ terminal ∷ []
+after_probe_reads (Mark Equals) next h = reads (WantFactor None None (Whole (OfLine Probing))) next _ h refl
+after_probe_reads Capital next h = reads WantColons next _ h refl
+after_probe_reads terminal next h = in_probe_reads Overall probe_start terminal next h
+
 -- a step adds its terminal to what has been read
 pub step_reads : (state : ParserState) (terminal : Terminal) (next : ParserState) → IsMet state → step state terminal ≡ Some next → text_of_state next ≡ text_of_state state ++ terminal ∷ []
 unfolding step
 step_reads (Want pending chosen joining outer) terminal next met h = want_reads pending chosen joining outer terminal next h
 step_reads (After hidden chosen joining outer) terminal next met h = after_reads hidden chosen joining outer terminal next h
-step_reads (WantEquals name) (Mark Equals) next met h = reads (WantFactor None None (Whole (OfLine name))) next _ h refl
+step_reads (WantEquals Plain) (Mark Equals) next met h = reads (WantFactor None None (Whole (OfLine Plain))) next _ h refl
+step_reads (WantEquals Plain) _ next met h = cc
+step_reads (WantEquals Probing) terminal next met h = after_probe_reads terminal next h
+step_reads WantColons (Mark DoubleColon) next met h = reads (InProbe OnConstant probe_start) next _ h refl
+step_reads (InProbe target state) terminal next met h = in_probe_reads target state terminal next h
 step_reads (WantComma word pending chosen joining outer) (Mark Comma) next met h = reads (WantFactor None None (Whole (OfActivity word pending chosen joining outer))) next _ h (simp (append_assoc, append-nil))
 step_reads (WantFactor summing multiplying outer) terminal next met h = want_factor_reads summing multiplying outer terminal next h
 step_reads (AfterFactor factor summing multiplying outer) terminal next met h = after_factor_reads factor summing multiplying outer terminal next h

@@ -6,11 +6,12 @@ use Rattle.token_grammar.specs.declared.terminal.Terminal.TheVariants.{Capital, 
 use Rattle.fault_ends.specs.declared.end.End.TheVariants.{Fault, Memory}
 use Rattle.token_grammar.proofs.Runs.{halts_here, halts_after, run_along, run_step}
 use Rattle.token_grammar.specs.Machines.{runs}
+use Rattle.token_grammar.specs.SmallNames.{Plain, Probing}
 use Rattle.pepa_reader.specs.declared.rates.RateRead.{RateRead}
 use Rattle.pepa_reader.specs.declared.words.WordsRead.{WordsRead}
 use Rattle.pepa_reader.specs.declared.processes.ActivityRead.{ActivityRead}
 use Rattle.pepa_reader.specs.declared.processes.ProcessRead.{ProcessRead}
-use Rattle.pepa_reader.specs.Grammar.{Plain, Probing, Word, Named, Internal, word_spelled, words_spelled, Rate, rate_spelled, Cooperation, Parallel, Sharing, cooperation_spelled, Process, OneChoice, Cooperating, Choice, OneHidden, Chosen, Hidden, OnePrefix, Hiding, Prefix, Activity, Grouped, process_spelled, choice_spelled, hidden_spelled, prefix_spelled}
+use Rattle.pepa_reader.specs.Grammar.{Word, Named, Internal, word_spelled, words_spelled, Rate, rate_spelled, Cooperation, Parallel, Sharing, cooperation_spelled, Process, OneChoice, Cooperating, Choice, OneHidden, Chosen, Hidden, OnePrefix, Hiding, Prefix, Activity, Grouped, process_spelled, choice_spelled, hidden_spelled, prefix_spelled}
 use Rattle.pepa_reader.specs.Trees.{ProcessNode, PrefixAt, ChoiceOf, CoopAt, HideOf, rate_node_of, process_node_of, rate_tree, word_indices, cooperation_indices, process_tree, choice_tree, hidden_tree, prefix_tree}
 use Rattle.pepa_reader.specs.Machine.{Pending, ChosenSoFar, Joining, Outer, InBrackets, RatePlace, OfActivity, Whole, OfHiding, OfCooperation, ParserState, Want, After, WantComma, WantFactor, WantDot, WantBrace, AtSet, run, step, behind_rate, behind_choice, behind_process}
 use Rattle.token_grammar.specs.Cursors.{Begins, IsSpelledFrom, IsAt, Expects, PartEnd}

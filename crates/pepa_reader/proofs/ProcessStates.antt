@@ -3,7 +3,8 @@ use Rattle.std.proofs.Common.{◌≡◌, List, [], ◌∷◌, refl, Option, Some
 use Rattle.pepa_lexer.specs.declared.kinds.Sign.TheVariants.{Equals, Semicolon, Opening, Closing, Comma, Dot, Plus, Slash, Less, Or, OpeningBrace}
 use Rattle.token_grammar.specs.declared.terminal.Terminal.{Terminal}
 use Rattle.token_grammar.specs.declared.terminal.Terminal.TheVariants.{Small, Probe, Tau, Capital, Mark, End}
-use Rattle.pepa_reader.specs.Grammar.{Plain, Probing, Word, Named, Internal, word_spelled, Rate, Process, OneChoice, Cooperating, OneHidden, Chosen, Hidden, OnePrefix, Constant}
+use Rattle.token_grammar.specs.SmallNames.{Plain, Probing}
+use Rattle.pepa_reader.specs.Grammar.{Word, Named, Internal, word_spelled, Rate, Process, OneChoice, Cooperating, OneHidden, Chosen, Hidden, OnePrefix, Constant}
 use Rattle.pepa_reader.specs.Machine.{Pending, ChosenSoFar, Joining, Outer, InLine, InSystem, InBrackets, Want, After, WantComma, WantDot, WantBrace, IsUndone, step, whole_process, starts, names_line, closes, behind_process}
 use Rattle.token_grammar.specs.Cursors.{Begins}
 use Rattle.pepa_reader.specs.Reading.{CannotGoOn, AdmitsPrefix, EndsProcess}

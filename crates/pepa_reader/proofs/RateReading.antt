@@ -6,13 +6,14 @@ use Rattle.token_grammar.specs.declared.terminal.Terminal.TheVariants.{Small, Pr
 use Rattle.fault_ends.specs.declared.end.End.TheVariants.{Fault, Memory}
 use Rattle.token_grammar.proofs.Runs.{halts_here, halts_after}
 use Rattle.token_grammar.specs.Machines.{runs}
+use Rattle.token_grammar.specs.SmallNames.{NoSmall}
 use Rattle.pepa_reader.specs.declared.trees.RateTree.{RateTree}
 use Rattle.pepa_reader.specs.declared.rates.RateRead.{RateRead}
 use Rattle.pepa_reader.specs.Grammar.{SumSign, Added, Subtracted, ProductSign, Multiplied, Divided, sum_sign_spelled, product_sign_spelled, Sum, OneProduct, Summed, Product, OneFactor, Produced, Factor, Amount, Bracketed, sum_spelled, product_spelled, Rate, Passive, Weighted, Computed}
 use Rattle.pepa_reader.specs.Trees.{RateNode, OpAt, BracketOf, rate_node_of, sum_tree, product_tree, factor_tree}
 use Rattle.pepa_reader.specs.Machine.{Summing, Multiplying, RatePlace, OfLine, OfActivity, RateOuter, Whole, InRateBrackets, WantFactor, AfterFactor, AfterTop, IsUndone, step, run, whole_sum, closes_sum, closes_rate, top_step, weighted_step, behind_sum, behind_product, behind_rate}
 use Rattle.token_grammar.specs.Cursors.{Begins, IsSpelledFrom, IsAt, Expects, PartEnd}
-use Rattle.pepa_reader.specs.Reading.{NoSmall, CannotGoOn, BeginsWeighted, IsNoWeight, AdmitsFactor, IsFactor, ReadsFactor, EndsSum, IsProduct, ReadsProduct, IsSum, ReadsSum, EndsRate, ReadsRate}
+use Rattle.pepa_reader.specs.Reading.{CannotGoOn, BeginsWeighted, IsNoWeight, AdmitsFactor, IsFactor, ReadsFactor, EndsSum, IsProduct, ReadsProduct, IsSum, ReadsSum, EndsRate, ReadsRate}
 use Rattle.token_grammar.proofs.Spelled.{spelled_append}
 use Rattle.pepa_reader.proofs.MachineRuns.{sum_runs, product_runs, star_behind_product, slash_behind_product, plus_behind_sum, minus_behind_sum}
 

@@ -6,12 +6,13 @@ use Rattle.token_grammar.specs.declared.terminal.Terminal.TheVariants.{Capital, 
 use Rattle.fault_ends.specs.declared.end.End.TheVariants.{Fault, Memory}
 use Rattle.token_grammar.proofs.Runs.{halts_here, halts_after}
 use Rattle.token_grammar.specs.Machines.{runs}
+use Rattle.token_grammar.specs.SmallNames.{NoSmall}
 use Rattle.pepa_reader.specs.declared.processes.ProcessRead.{ProcessRead}
 use Rattle.pepa_reader.specs.declared.items.Item.TheVariants as items
 use Rattle.pepa_reader.specs.Grammar.{Process, OneChoice, OneHidden, OnePrefix, Constant, System, process_spelled}
 use Rattle.pepa_reader.specs.Machine.{InSystem, WantEnd, step, run, start, behind_process}
 use Rattle.token_grammar.specs.Cursors.{Begins, IsSpelledFrom, PartEnd}
-use Rattle.pepa_reader.specs.Reading.{NoSmall, CannotGoOn, EndsProcess, IsProcess, ReadsProcess}
+use Rattle.pepa_reader.specs.Reading.{CannotGoOn, EndsProcess, IsProcess, ReadsProcess}
 use Rattle.pepa_reader.specs.ItemReading.{NoLineHead, ReadsEnding, ReadsItem, IsItemRead}
 use Rattle.token_grammar.proofs.Spelled.{spelled_append}
 use Rattle.pepa_reader.proofs.MachineRuns.{process_runs, process_closes}

@@ -6,8 +6,9 @@ use Rattle.token_grammar.specs.declared.terminal.Terminal.TheVariants.{Small, Pr
 use Rattle.fault_ends.specs.declared.end.End.TheVariants.{Fault, Memory}
 use Rattle.token_grammar.proofs.Runs.{halts_here, halts_after, run_step}
 use Rattle.token_grammar.specs.Machines.{runs}
+use Rattle.token_grammar.specs.SmallNames.{Plain, Probing}
 use Rattle.pepa_reader.specs.declared.words.WordsRead.{WordsRead}
-use Rattle.pepa_reader.specs.Grammar.{Plain, Probing, Word, Named, Internal, word_spelled, words_spelled, Sharing, Process}
+use Rattle.pepa_reader.specs.Grammar.{Word, Named, Internal, word_spelled, words_spelled, Sharing, Process}
 use Rattle.pepa_reader.specs.Trees.{word_indices}
 use Rattle.pepa_reader.specs.Machine.{Outer, SetPlace, OfCooperation, OfHiding, ParserState, AtSet, AfterWord, WantWord, IsUndone, step, run, closes_set, behind_process}
 use Rattle.token_grammar.specs.Cursors.{Begins, IsSpelledFrom, IsAt, Expects, PartEnd}

@@ -3,12 +3,12 @@ use Rattle.std.specs.Prelude.{◌≡◌, ℕ, ◌+◌, ◌<◌, ◌≤◌, List,
 use Rattle.std.specs.List.{AllByRecursion}
 use Rattle.pepa_lexer.specs.declared.kinds.Token.{Token}
 use Rattle.pepa_lexer.specs.declared.kinds.Place.{Place}
-use Rattle.pepa_lexer.specs.declared.kinds.Sign.TheVariants.{Equals, Star, Less, OpeningBracket}
+use Rattle.pepa_lexer.specs.declared.kinds.Sign.TheVariants.{Star, Less, OpeningBracket}
 use Rattle.token_grammar.specs.declared.terminal.Terminal.{Terminal}
-use Rattle.token_grammar.specs.declared.terminal.Terminal.TheVariants.{Probe, Mark}
+use Rattle.token_grammar.specs.declared.terminal.Terminal.TheVariants.{Mark}
 use Rattle.pepa_reader.specs.declared.trees.FileTree.{FileTree}
 use Rattle.pepa_reader.specs.declared.fault.FileFault.{FileFault}
-use Rattle.pepa_reader.specs.declared.fault.FileFault.TheVariants.{Expected, TooDeep, Array, Wildcard, Unsupported, Memory}
+use Rattle.pepa_reader.specs.declared.fault.FileFault.TheVariants.{Expected, TooDeep, Array, Wildcard, Memory}
 use Rattle.token_grammar.specs.Terminals.{terminals}
 use Rattle.token_grammar.specs.Languages.{StandsAt, CantFollow}
 use Rattle.pepa_reader.specs.Grammar.{File, Line, Item, System, line_spelled, item_spelled, lines_spelled, file_spelled}
@@ -39,24 +39,16 @@ pub record IsInItem (terminals : List Terminal) (i begun : ℕ) : Type 0 where
   pub index : i ≡ length (lines_spelled lines) + begun
   pub more : begun < length (item_spelled item)
 
--- a probe line begins at the index: `probe` begins an item there, and no `=` stands behind it
-pub record BeginsProbeLine (terminals : List Terminal) (i : ℕ) : Type 0 where
-  pub begins : IsInItem terminals i 0
-  pub probe : StandsAt terminals i Probe
-  pub behind : ¬ StandsAt terminals (i + 1) (Mark Equals)
-
 -- a `*` at once behind a `<`
 abbrev pub IsWildcard : List Terminal → ℕ → Type 0
 IsWildcard terminals i = StandsAt terminals i (Mark Star) × ((before : ℕ) × (i ≡ before + 1) × StandsAt terminals before (Mark Less))
 
--- the first terminal that can't follow, where it is one of its item's first 2,048; behind an item's first terminal, `probe`,
--- it makes the item a probe line, which is refused at its `probe`
+-- the first terminal that can't follow, where it is one of its item's first 2,048
 pub record IsRefusedAtToken (terminals : List Terminal) (i : ℕ) : Type 0 where
   pub first : CantFollow IsFile terminals i
   pub begun : ℕ
   pub in_item : IsInItem terminals i begun
   pub few : begun < most_tokens
-  pub no_probe_line : (before : ℕ) → begun ≡ 1 → i ≡ before + 1 → ¬ StandsAt terminals before Probe
 
 -- the fault of a kind at an index
 abbrev pub IsFaultAt : List Terminal → ℕ → FileFault → Type 0
@@ -64,7 +56,6 @@ IsFaultAt terminals i (Expected place) = IsRefusedAtToken terminals i × (¬ Sta
 IsFaultAt terminals i (Array place) = IsRefusedAtToken terminals i × StandsAt terminals i (Mark OpeningBracket)
 IsFaultAt terminals i (Wildcard place) = IsRefusedAtToken terminals i × IsWildcard terminals i
 IsFaultAt terminals i (TooDeep place) = IsInItem terminals i most_tokens × (i < length terminals)
-IsFaultAt terminals i (Unsupported place) = BeginsProbeLine terminals i
 IsFaultAt terminals i Memory = ⊥
 
 -- a fault stands at this index
@@ -81,7 +72,6 @@ IsPlaceOf (Expected place) there = place ≡ there
 IsPlaceOf (Array place) there = place ≡ there
 IsPlaceOf (Wildcard place) there = place ≡ there
 IsPlaceOf (TooDeep place) there = place ≡ there
-IsPlaceOf (Unsupported place) there = place ≡ there
 IsPlaceOf Memory there = ⊥
 
 -- the tokens have this fault, at the place of the token that can't follow

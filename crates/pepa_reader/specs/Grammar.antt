@@ -1,25 +1,18 @@
 -- The grammar of files, one constructor a production, and the terminals that each production spells.
 use Rattle.std.specs.Prelude.{List, [], ◌∷◌, ◌++◌}
 use Rattle.std.specs.List.{flat_map}
-use Rattle.pepa_lexer.specs.declared.kinds.Sign.TheVariants.{Equals, Semicolon, Opening, Closing, Comma, Dot, Plus, Minus, Star, Slash, Less, Greater, Or, OpeningBrace, ClosingBrace}
+use Rattle.pepa_lexer.specs.declared.kinds.Sign.TheVariants.{Equals, Semicolon, Opening, Closing, Comma, Dot, Plus, Minus, Star, Slash, Less, Greater, Or, OpeningBrace, ClosingBrace, DoubleColon}
 use Rattle.token_grammar.specs.declared.terminal.Terminal.{Terminal}
-use Rattle.token_grammar.specs.declared.terminal.Terminal.TheVariants.{Small, Probe, Tau, Capital, Top, Number, Mark, End}
+use Rattle.token_grammar.specs.declared.terminal.Terminal.TheVariants.{Probe, Tau, Capital, Top, Number, Mark, End}
+use Rattle.token_grammar.specs.SmallNames.{SmallName, small_spelled}
+use Rattle.probe_reader.specs.ProbeGrammar.{Alternatives, alternatives_spelled}
 
 -- ---- names and words
-
--- small: a name that begins with a small letter; `probe` is one
-pub data SmallName : Type 0 where
-  Plain : SmallName
-  Probing : SmallName
 
 -- word := small | "tau"
 pub data Word : Type 0 where
   Named : SmallName → Word
   Internal : Word
-
-abbrev pub small_spelled : SmallName → Terminal
-small_spelled Plain = Small
-small_spelled Probing = Probe
 
 abbrev pub word_spelled : Word → Terminal
 word_spelled (Named name) = small_spelled name
@@ -149,14 +142,25 @@ abbrev mutual
 
 -- ---- files
 
--- line := small "=" rate ";" | Capital "=" process ";"
+-- what a probe watches: nothing is written for the whole system, and Capital "::" for a constant
+pub data ProbeTarget : Type 0 where
+  Overall : ProbeTarget
+  OnConstant : ProbeTarget
+
+abbrev pub target_spelled : ProbeTarget → List Terminal
+target_spelled Overall = []
+target_spelled OnConstant = Capital ∷ Mark DoubleColon ∷ []
+
+-- line := small "=" rate ";" | Capital "=" process ";" | "probe" [Capital "::"] alt ";"
 pub data Line : Type 0 where
   RateNamed : SmallName → Rate → Line
   ProcessNamed : Process → Line
+  ProbeWritten : ProbeTarget → Alternatives → Line
 
 abbrev pub line_spelled : Line → List Terminal
 line_spelled (RateNamed name rate) = small_spelled name ∷ Mark Equals ∷ (rate_spelled rate ++ Mark Semicolon ∷ [])
 line_spelled (ProcessNamed process) = Capital ∷ Mark Equals ∷ (process_spelled process ++ Mark Semicolon ∷ [])
+line_spelled (ProbeWritten target alternatives) = Probe ∷ (target_spelled target ++ (alternatives_spelled alternatives ++ Mark Semicolon ∷ []))
 
 -- what stands behind the system: [";"] End
 pub data Ending : Type 0 where

@@ -1,11 +1,13 @@
 -- A machine that reads the terminals of one item, one by one. Its states are what has been read, so it shows which tokens
 -- can follow. It is a device of the proofs: no public clause speaks of it.
 use Rattle.std.specs.Prelude.{List, [], ◌∷◌, ◌++◌, Option, Some, None}
-use Rattle.pepa_lexer.specs.declared.kinds.Sign.TheVariants.{Equals, Semicolon, Opening, Closing, Comma, Dot, Plus, Minus, Star, Slash, Less, Greater, Or, OpeningBrace, ClosingBrace}
+use Rattle.pepa_lexer.specs.declared.kinds.Sign.TheVariants.{Equals, Semicolon, Opening, Closing, Comma, Dot, Plus, Minus, Star, Slash, Less, Greater, Or, OpeningBrace, ClosingBrace, DoubleColon}
 use Rattle.token_grammar.specs.declared.terminal.Terminal.{Terminal}
 use Rattle.token_grammar.specs.declared.terminal.Terminal.TheVariants.{Small, Probe, Tau, Capital, Top, Number, Mark, End}
 use Rattle.token_grammar.specs.Machines.{runs}
-use Rattle.pepa_reader.specs.Grammar.{SmallName, Plain, Probing, Word, Named, Internal, SumSign, Added, Subtracted, ProductSign, Multiplied, Divided, Sum, OneProduct, Summed, Product, OneFactor, Produced, Factor, Amount, Naming, Bracketed, Rate, Passive, Weighted, Computed, Cooperation, Parallel, Sharing, Process, OneChoice, Cooperating, Choice, OneHidden, Chosen, Hidden, OnePrefix, Hiding, Prefix, Activity, Constant, Grouped, RateNamed, ProcessNamed, Open, Closed, Item, OneLine, System}
+use Rattle.token_grammar.specs.SmallNames.{SmallName, Plain, Probing}
+use Rattle.probe_reader.specs.ProbeMachine.{ProbeState, AfterPart, Outermost, whole_alternatives, probe_step, probe_start}
+use Rattle.pepa_reader.specs.Grammar.{Word, Named, Internal, SumSign, Added, Subtracted, ProductSign, Multiplied, Divided, Sum, OneProduct, Summed, Product, OneFactor, Produced, Factor, Amount, Naming, Bracketed, Rate, Passive, Weighted, Computed, Cooperation, Parallel, Sharing, Process, OneChoice, Cooperating, Choice, OneHidden, Chosen, Hidden, OnePrefix, Hiding, Prefix, Activity, Constant, Grouped, RateNamed, ProcessNamed, ProbeTarget, Overall, OnConstant, ProbeWritten, Open, Closed, Item, OneLine, System}
 
 -- ---- what has been read of the parts that are not whole yet
 
@@ -59,8 +61,12 @@ pub data ParserState : Type 0 where
   Want : List Pending → ChosenSoFar → Option Joining → Outer → ParserState
   -- behind one
   After : Hidden → ChosenSoFar → Option Joining → Outer → ParserState
-  -- wants the `=` of a rate line
+  -- after the first name of a line: wants the `=` of a rate line, or, after `probe`, what a probe line goes on with
   WantEquals : SmallName → ParserState
+  -- after the target of a probe line
+  WantColons : ParserState
+  -- in the expression of a probe line
+  InProbe : ProbeTarget → ProbeState → ParserState
   -- wants the comma behind an activity's word
   WantComma : Word → List Pending → ChosenSoFar → Option Joining → Outer → ParserState
   -- wants a factor of a rate
@@ -216,6 +222,33 @@ abbrev pub wants_equals : ParserState → Terminal → Option ParserState
 wants_equals next (Mark Equals) = Some next
 wants_equals next _ = None
 
+-- an expression is whole
+abbrev pub closes_probe : ProbeTarget → ProbeState → Terminal → Option ParserState
+closes_probe target (AfterPart postfixed guards sequence alternatives Outermost) (Mark Semicolon) = Some (Done (OneLine (ProbeWritten target (whole_alternatives postfixed guards sequence alternatives))))
+closes_probe target _ _ = None
+
+-- the expression goes on, or it is whole
+abbrev pub probe_goes_on_or : ProbeTarget → Option ParserState → Option ProbeState → Option ParserState
+probe_goes_on_or target closed (Some next) = Some (InProbe target next)
+probe_goes_on_or target closed None = closed
+
+abbrev pub in_probe_step : ProbeTarget → ProbeState → Terminal → Option ParserState
+in_probe_step target state terminal = probe_goes_on_or target (closes_probe target state terminal) (probe_step state terminal)
+
+-- after the word `probe`
+abbrev pub after_probe_step : Terminal → Option ParserState
+after_probe_step (Mark Equals) = Some (WantFactor None None (Whole (OfLine Probing)))
+after_probe_step Capital = Some WantColons
+after_probe_step terminal = in_probe_step Overall probe_start terminal
+
+abbrev pub name_step : SmallName → Terminal → Option ParserState
+name_step Plain terminal = wants_equals (WantFactor None None (Whole (OfLine Plain))) terminal
+name_step Probing terminal = after_probe_step terminal
+
+abbrev pub wants_colons : Terminal → Option ParserState
+wants_colons (Mark DoubleColon) = Some (InProbe OnConstant probe_start)
+wants_colons _ = None
+
 abbrev pub wants_comma : ParserState → Terminal → Option ParserState
 wants_comma next (Mark Comma) = Some next
 wants_comma next _ = None
@@ -236,7 +269,9 @@ wants_end next _ = None
 unfoldable pub step : ParserState → Terminal → Option ParserState
 step (Want pending chosen joining outer) terminal = want_step pending chosen joining outer terminal
 step (After hidden chosen joining outer) terminal = after_step hidden chosen joining outer terminal
-step (WantEquals name) terminal = wants_equals (WantFactor None None (Whole (OfLine name))) terminal
+step (WantEquals name) terminal = name_step name terminal
+step WantColons terminal = wants_colons terminal
+step (InProbe target state) terminal = in_probe_step target state terminal
 step (WantComma word pending chosen joining outer) terminal = wants_comma (WantFactor None None (Whole (OfActivity word pending chosen joining outer))) terminal
 step (WantFactor summing multiplying outer) terminal = want_factor_step summing multiplying outer terminal
 step (AfterFactor factor summing multiplying outer) terminal = after_factor_step factor summing multiplying outer terminal

@@ -10,24 +10,17 @@ use Rattle.pepa_reader.specs.declared.processes.ActivityRead.{ActivityRead}
 use Rattle.pepa_reader.specs.declared.processes.ProcessRead.{ProcessRead}
 use Rattle.token_grammar.specs.Cursors.{Begins, IsSpelledFrom, IsAt, PartEnd}
 use Rattle.token_grammar.specs.Machines.{IsRefusedBy, HaltsAt}
-use Rattle.pepa_reader.specs.Grammar.{SmallName, small_spelled, SumSign, sum_sign_spelled, product_sign_spelled, Weighted, Word, word_spelled, words_spelled, ProductSign, Multiplied, Sum, Product, OneFactor, Factor, Amount, sum_spelled, product_spelled, factor_spelled, Rate, Computed, rate_spelled, Cooperation, cooperation_spelled, Process, Choice, Hidden, Prefix, process_spelled, choice_spelled, hidden_spelled, prefix_spelled}
+use Rattle.token_grammar.specs.SmallNames.{NoSmall}
+use Rattle.pepa_reader.specs.Grammar.{SumSign, sum_sign_spelled, product_sign_spelled, Weighted, Word, word_spelled, words_spelled, ProductSign, Multiplied, Sum, Product, OneFactor, Factor, Amount, sum_spelled, product_spelled, factor_spelled, Rate, Computed, rate_spelled, Cooperation, cooperation_spelled, Process, Choice, Hidden, Prefix, process_spelled, choice_spelled, hidden_spelled, prefix_spelled}
 use Rattle.pepa_reader.specs.declared.trees.RateTree.{RateTree}
 use Rattle.pepa_reader.specs.Trees.{OpAt, PrefixAt, HideOf, ChoiceOf, CoopAt, rate_node_of, process_node_of, sum_tree, product_tree, factor_tree, rate_tree, word_indices, cooperation_indices, process_tree, choice_tree, hidden_tree, prefix_tree}
 use Rattle.pepa_reader.specs.Machine.{Pending, ChosenSoFar, Joining, Outer, InSystem, InBrackets, RatePlace, Summing, Multiplying, RateOuter, Whole, SetPlace, OfCooperation, OfHiding, ParserState, Want, WantFactor, AtSet, IsUndone, step, behind_process}
 
 -- ---- what stands at an index
 
--- no small name, and no word, stands in front
-abbrev pub NoSmall : List Terminal → Type 0
-NoSmall rest = (¬ Begins rest Small) × (¬ Begins rest Probe)
-
+-- no word is in front
 abbrev pub NoWord : List Terminal → Type 0
 NoWord rest = (¬ Begins rest Small) × (¬ Begins rest Probe) × (¬ Begins rest Tau)
-
--- the index after a small name, if one stands at the index
-abbrev pub FindsSmall : List Terminal → ℕ → Option ℕ → Type 0
-FindsSmall kinds at answer =
-    MatchOption answer (NoSmall (drop at kinds)) (λ next. (name : SmallName) × IsAt kinds at next (small_spelled name))
 
 -- the index after a word, if one stands at the index
 abbrev pub FindsWord : List Terminal → ℕ → Option ℕ → Type 0

@@ -4,9 +4,11 @@ use Rattle.pepa_reader.specs.declared.trees.RateTree.{RateTree, Number, Name, To
 use Rattle.pepa_reader.specs.declared.trees.ProcessTree.{ProcessTree, Constant, Prefix', Choice', Coop', Hide'}
 use Rattle.pepa_reader.specs.declared.trees.RateLine.{RateLine}
 use Rattle.pepa_reader.specs.declared.trees.ProcessLine.{ProcessLine}
+use Rattle.pepa_reader.specs.declared.trees.ProbeLine.{ProbeLine}
 use Rattle.pepa_reader.specs.declared.trees.FileTree.{FileTree}
+use Rattle.probe_reader.specs.ProbeTrees.{ProbeNode, probe_node_of, alternatives_tree}
 use Rattle.pepa_reader.specs.Grammar as g
-use Rattle.pepa_reader.specs.Grammar.{sum_spelled, product_spelled, factor_spelled, rate_spelled, cooperation_spelled, process_spelled, choice_spelled, hidden_spelled, prefix_spelled, line_spelled, lines_spelled}
+use Rattle.pepa_reader.specs.Grammar.{sum_spelled, product_spelled, factor_spelled, rate_spelled, cooperation_spelled, process_spelled, choice_spelled, hidden_spelled, prefix_spelled, target_spelled, line_spelled, lines_spelled}
 
 -- ---- trees without pointers
 
@@ -33,9 +35,16 @@ pub record ProcessLineNode : Type 0 where
   pub line_at : ℕ
   pub body : ProcessNode
 
+-- the index of the target, if there is one
+pub record ProbeLineNode : Type 0 where
+  pub line_at : ℕ
+  pub target : Option ℕ
+  pub expr : ProbeNode
+
 pub record FileNode : Type 0 where
   pub rates : List RateLineNode
   pub processes : List ProcessLineNode
+  pub probes : List ProbeLineNode
   pub system : ProcessNode
 
 -- ---- what the program's trees are
@@ -60,9 +69,12 @@ rate_line_of line = record { line_at = line.at; rate = rate_node_of line.rate }
 abbrev pub process_line_of : ProcessLine → ProcessLineNode
 process_line_of line = record { line_at = line.at; body = process_node_of line.body }
 
+abbrev pub probe_line_of : ProbeLine → ProbeLineNode
+probe_line_of line = record { line_at = line.at; target = line.target; expr = probe_node_of line.expr }
+
 abbrev pub file_node_of : FileTree → FileNode
 file_node_of file =
-    record { rates = map rate_line_of file.rates; processes = map process_line_of file.processes; system = process_node_of file.system }
+    record { rates = map rate_line_of file.rates; processes = map process_line_of file.processes; probes = map probe_line_of file.probes; system = process_node_of file.system }
 
 -- ---- the trees of what the grammar spells, from the index of its first token on
 
@@ -120,14 +132,29 @@ rate_lines_from at [] = []
 rate_lines_from at (g.RateNamed name rate ∷ lines) =
     record { line_at = at; rate = rate_tree (at + 2) rate } ∷ rate_lines_from (at + length (line_spelled (g.RateNamed name rate))) lines
 rate_lines_from at (g.ProcessNamed process ∷ lines) = rate_lines_from (at + length (line_spelled (g.ProcessNamed process))) lines
+rate_lines_from at (g.ProbeWritten target alternatives ∷ lines) = rate_lines_from (at + length (line_spelled (g.ProbeWritten target alternatives))) lines
 
 abbrev pub process_lines_from : ℕ → List g.Line → List ProcessLineNode
 process_lines_from at [] = []
 process_lines_from at (g.RateNamed name rate ∷ lines) = process_lines_from (at + length (line_spelled (g.RateNamed name rate))) lines
 process_lines_from at (g.ProcessNamed process ∷ lines) =
     record { line_at = at; body = process_tree (at + 2) process } ∷ process_lines_from (at + length (line_spelled (g.ProcessNamed process))) lines
+process_lines_from at (g.ProbeWritten target alternatives ∷ lines) = process_lines_from (at + length (line_spelled (g.ProbeWritten target alternatives))) lines
+
+-- the target of a probe line whose word `probe` is before the index
+abbrev pub target_at : ℕ → g.ProbeTarget → Option ℕ
+target_at at g.Overall = None
+target_at at g.OnConstant = Some at
+
+abbrev pub probe_lines_from : ℕ → List g.Line → List ProbeLineNode
+probe_lines_from at [] = []
+probe_lines_from at (g.RateNamed name rate ∷ lines) = probe_lines_from (at + length (line_spelled (g.RateNamed name rate))) lines
+probe_lines_from at (g.ProcessNamed process ∷ lines) = probe_lines_from (at + length (line_spelled (g.ProcessNamed process))) lines
+probe_lines_from at (g.ProbeWritten target alternatives ∷ lines) =
+    record { line_at = at; target = target_at (at + 1) target; expr = alternatives_tree (at + 1 + length (target_spelled target)) alternatives }
+    ∷ probe_lines_from (at + length (line_spelled (g.ProbeWritten target alternatives))) lines
 
 -- the tree of a file
 abbrev pub file_tree : g.File → FileNode
 file_tree file =
-    record { rates = rate_lines_from 0 file.lines; processes = process_lines_from 0 file.lines; system = process_tree (length (lines_spelled file.lines)) file.system }
+    record { rates = rate_lines_from 0 file.lines; processes = process_lines_from 0 file.lines; probes = probe_lines_from 0 file.lines; system = process_tree (length (lines_spelled file.lines)) file.system }

@@ -16,8 +16,6 @@ pub enum FileFault {
     Array(Place),
     /// A `*` that stands at once behind a `<`, and can't follow.
     Wildcard(Place),
-    /// The word `probe` of a probe line.
-    Unsupported(Place),
     /// Memory ran out.
     Memory,
 }

@@ -26,9 +26,6 @@ fn cause(text: &Text, start: usize, i: usize) -> FileFault
 {
     let place = text.tokens[i].place;
     let begun = i - start;
-    if begun == 1 && text.comes(start, Terminal::Probe) {
-        return FileFault::Unsupported(text.tokens[start].place);
-    }
     if begun == MOST_TOKENS {
         return FileFault::TooDeep(place);
     }
@@ -67,14 +64,14 @@ fn item_at(alloc: Global, tokens: &[Token], input: &[u8], at: usize) -> Result<I
 ///
 /// The tree's nodes hold the indices of tokens. `tokens` are those of `input`. A refusal tells the place of the first token
 /// with which what stands before it can't be continued to a file; `TooDeep` tells the 2,049th token of an item, and goes
-/// before the others there. A probe line is refused as `Unsupported` at its word `probe`. `Memory` says only that memory ran
-/// out.
+/// before the others there. `Memory` says only that memory ran out.
 pub fn read_file(alloc: Global, tokens: &[Token], input: &[u8]) -> Result<FileTree, FileFault>
     requires { IsTokens input.now tokens.now }
     ensures { ReadsFile input.now tokens.now result }
 {
     let mut rates = Items::new(alloc);
     let mut processes = Items::new(alloc);
+    let mut probes = Items::new(alloc);
     let mut at = 0;
     loop {
         let ItemRead { item, next } = item_at(alloc, tokens, input, at)?;
@@ -82,10 +79,12 @@ pub fn read_file(alloc: Global, tokens: &[Token], input: &[u8]) -> Result<FileTr
         match item {
             Item::Rate(line) => rates.push(line)?,
             Item::Process(line) => processes.push(line)?,
+            Item::Probe(line) => probes.push(line)?,
             Item::System(system) => {
                 return Ok(FileTree {
                     rates,
                     processes,
+                    probes,
                     system,
                 });
             }

@@ -1,15 +1,16 @@
-//! The items of a file: rate lines, process lines and the system.
+//! The items of a file: rate lines, process lines, probe lines and the system.
 
-ghost use Rattle.std.specs.Prelude.{drop, Some};
-ghost use Rattle.token_grammar.specs.Cursors.{kinds_of};
-ghost use Rattle.pepa_reader.specs.Reading.{NoSmall, FindsSmall};
-ghost use Rattle.pepa_reader.specs.ItemReading.{IsLineHead, NoLineHead, FindsLineHead, ReadsEnding, ReadsItem};
+ghost use Rattle.std.specs.Prelude.{drop};
+ghost use Rattle.token_grammar.specs.Cursors.{kinds_of, Begins, IsAt};
+ghost use Rattle.token_grammar.specs.SmallNames.{SmallName, NoSmall};
+ghost use Rattle.pepa_reader.specs.ItemReading.{IsRateHead, IsLineHead, NoLineHead, FindsLineHead, ReadsTarget, ReadsExpression, ReadsEnding, ReadsItem};
 
 use crate::processes::{ProcessRead, process};
 use crate::rates::{RateRead, rate};
-use crate::trees::{ProcessLine, ProcessTree, RateLine};
-use crate::words::small;
+use crate::trees::{ProbeLine, ProcessLine, ProcessTree, RateLine};
+use fault_ends::End;
 use pepa_lexer::Sign;
+use probe_reader::{ProbeRead, ProbeTextFault, read_probe};
 use std::alloc::Global;
 use token_grammar::{PartEnd, Terminal, Text};
 
@@ -18,6 +19,7 @@ use token_grammar::{PartEnd, Terminal, Text};
 pub(crate) enum Item {
     Rate(RateLine),
     Process(ProcessLine),
+    Probe(ProbeLine),
     System(ProcessTree),
 }
 
@@ -28,16 +30,83 @@ pub(crate) struct ItemRead {
     pub next: usize,
 }
 
-/// The rate line whose name stands at the index, and the index behind the name.
-fn rate_line(alloc: Global, text: &Text, at: usize, equals: usize) -> Result<ItemRead, PartEnd>
-    requires { FindsSmall (kinds_of text.now) at (Some equals) }
+/// The target of a probe line, if it has one, and the index after it.
+#[derive(Clone, Copy, Debug)]
+pub(crate) struct TargetRead {
+    pub target: Option<usize>,
+    pub next: usize,
+}
+
+/// The rate line whose name is at the index, and which goes on after its `=`.
+fn rate_line(alloc: Global, text: &Text, at: usize, start: usize) -> Result<ItemRead, PartEnd>
+    requires { (name : SmallName) × IsRateHead (kinds_of text.now) at start name }
     ensures { ReadsItem (kinds_of text.now) at result }
 {
-    let start = text.expect(equals, Terminal::Mark(Sign::Equals))?;
     let RateRead { tree: rate, next } = rate(alloc, text, start)?;
     let next = text.expect(next, Terminal::Mark(Sign::Semicolon))?;
     let item = Item::Rate(RateLine { at, rate });
     Ok(ItemRead { item, next })
+}
+
+/// The rate line whose name is at the index and isn't `probe`.
+fn named_line(alloc: Global, text: &Text, at: usize, equals: usize) -> Result<ItemRead, PartEnd>
+    requires { IsAt (kinds_of text.now) at equals Terminal.Small }
+    ensures { ReadsItem (kinds_of text.now) at result }
+{
+    let start = text.expect(equals, Terminal::Mark(Sign::Equals))?;
+    rate_line(alloc, text, at, start)
+}
+
+/// The target of a probe line at the index, if there is one.
+fn target(text: &Text, at: usize) -> Result<TargetRead, PartEnd>
+    ensures { ReadsTarget (kinds_of text.now) at result }
+{
+    let Some(colons) = text.after(at, Terminal::Capital) else {
+        return Ok(TargetRead {
+            target: None,
+            next: at,
+        });
+    };
+    let next = text.expect(colons, Terminal::Mark(Sign::DoubleColon))?;
+    Ok(TargetRead {
+        target: Some(at),
+        next,
+    })
+}
+
+/// The expression of a probe that begins at the index.
+fn expression(alloc: Global, text: &Text, at: usize) -> Result<ProbeRead, PartEnd>
+    ensures { ReadsExpression (kinds_of text.now) at result }
+{
+    match read_probe(alloc, text.tokens, text.input, at, text.tokens.len()) {
+        Ok(read) => Ok(read),
+        Err(ProbeTextFault::Expected(i)) => Err(End::Fault(i)),
+        Err(ProbeTextFault::Memory) => Err(End::Memory),
+    }
+}
+
+/// The probe line whose `probe` is at the index, and which goes on at `start`.
+fn probe_line(alloc: Global, text: &Text, at: usize, start: usize) -> Result<ItemRead, PartEnd>
+    requires probe { IsAt (kinds_of text.now) at start Terminal.Probe }
+    requires line { ¬ Begins (drop start (kinds_of text.now)) (Terminal.Mark Sign.Equals) }
+    ensures { ReadsItem (kinds_of text.now) at result }
+{
+    let TargetRead { target, next } = target(text, start)?;
+    let ProbeRead { tree: expr, next } = expression(alloc, text, next)?;
+    let next = text.expect(next, Terminal::Mark(Sign::Semicolon))?;
+    let item = Item::Probe(ProbeLine { at, target, expr });
+    Ok(ItemRead { item, next })
+}
+
+/// The line whose `probe` is at the index: a rate line where a `=` is after it, else a probe line.
+fn probing_line(alloc: Global, text: &Text, at: usize, behind: usize) -> Result<ItemRead, PartEnd>
+    requires { IsAt (kinds_of text.now) at behind Terminal.Probe }
+    ensures { ReadsItem (kinds_of text.now) at result }
+{
+    match text.after(behind, Terminal::Mark(Sign::Equals)) {
+        Some(start) => rate_line(alloc, text, at, start),
+        None => probe_line(alloc, text, at, behind),
+    }
 }
 
 /// The index behind a constant and a `=`, if they stand at the index.
@@ -86,8 +155,11 @@ fn system(alloc: Global, text: &Text, at: usize) -> Result<ItemRead, PartEnd>
 pub(crate) fn next_item(alloc: Global, text: &Text, at: usize) -> Result<ItemRead, PartEnd>
     ensures { ReadsItem (kinds_of text.now) at result }
 {
-    if let Some(equals) = small(text, at) {
-        return rate_line(alloc, text, at, equals);
+    if let Some(behind) = text.after(at, Terminal::Probe) {
+        return probing_line(alloc, text, at, behind);
+    }
+    if let Some(equals) = text.after(at, Terminal::Small) {
+        return named_line(alloc, text, at, equals);
     }
     if let Some(start) = line_head(text, at) {
         return process_line(alloc, text, at, start);

@@ -2,7 +2,7 @@
 //!
 //! ```text
 //! file     := item* process [";"] End
-//! item     := small "=" rate ";" | Capital "=" process ";"
+//! item     := small "=" rate ";" | Capital "=" process ";" | "probe" [Capital "::"] alt ";"
 //! process  := choice (coop choice)*                       left first
 //! coop     := "||" | "<" [word ("," word)*] ">"
 //! choice   := hidden ("+" hidden)*                        left first
@@ -16,9 +16,9 @@
 //! factor   := NUMBER | small | "(" sum ")"
 //! ```
 //!
-//! An item runs from its first token to its `;`, and the last item is the system, which ends with the end of the text. An
-//! item has at most 2,048 tokens. A line that begins with the small name `probe` is a probe line where the next token isn't
-//! `=`; probe lines aren't read yet.
+//! `alt` is an expression of a probe (`probe_reader`). An item runs from its first token to its `;`, and the last item is the
+//! system, which ends with the end of the text. An item has at most 2,048 tokens. A line that begins with the small name
+//! `probe` is a probe line where the next token isn't `=`.
 #![tactic(auto)]
 
 mod fault;
@@ -33,5 +33,6 @@ mod words;
 pub use fault::FileFault;
 pub use file::read_file;
 pub use trees::{
-    FileTree, Indices, ProcessLine, ProcessLines, ProcessTree, RateLine, RateLines, RateTree,
+    FileTree, Indices, ProbeLine, ProbeLines, ProcessLine, ProcessLines, ProcessTree, RateLine,
+    RateLines, RateTree,
 };

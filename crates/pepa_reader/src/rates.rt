@@ -6,7 +6,6 @@ ghost use Rattle.token_grammar.specs.Cursors.{kinds_of};
 ghost use Rattle.pepa_reader.specs.Reading.{FindsSumSign, FindsProductSign, FindsWeighted, IsOperation, ReadsFactor, ReadsProduct, ReadsSum, ReadsRate};
 
 use crate::trees::RateTree;
-use crate::words::small;
 use pepa_lexer::Sign;
 use std::alloc::{AllocError, Global};
 use token_grammar::{PartEnd, Terminal, Text};
@@ -47,7 +46,7 @@ fn factor(alloc: Global, text: &Text, at: usize) -> Result<RateRead, PartEnd>
         let tree = RateTree::Number(at);
         return Ok(RateRead { tree, next });
     }
-    if let Some(next) = small(text, at) {
+    if let Some(next) = text.small(at) {
         let tree = RateTree::Name(at);
         return Ok(RateRead { tree, next });
     }

@@ -1,5 +1,6 @@
 //! Trees of files, rates and processes, whose nodes hold indices of tokens.
 
+use probe_reader::ProbeTree;
 use sqlite_items::Items;
 
 /// A rate, as it is written.
@@ -68,16 +69,28 @@ pub struct ProcessLine {
     pub body: ProcessTree,
 }
 
+/// A line that writes a probe, by the index of its first token, `probe`, and of its target, if it has one.
+#[derive(Debug, Drop)]
+pub struct ProbeLine {
+    pub at: usize,
+    pub target: Option<usize>,
+    pub expr: ProbeTree,
+}
+
 /// The rate lines of a file, in order.
 pub type RateLines = Items<RateLine>;
 
 /// The process lines of a file, in order.
 pub type ProcessLines = Items<ProcessLine>;
 
+/// The probe lines of a file, in order.
+pub type ProbeLines = Items<ProbeLine>;
+
 /// A file, as it is written. Every number in it is the index of a token.
 #[derive(Debug, Drop)]
 pub struct FileTree {
     pub rates: RateLines,
     pub processes: ProcessLines,
+    pub probes: ProbeLines,
     pub system: ProcessTree,
 }

@@ -2,7 +2,7 @@
 
 ghost use Rattle.std.specs.Prelude.{◌≡◌, ◌⊎◌};
 ghost use Rattle.token_grammar.specs.Cursors.{kinds_of};
-ghost use Rattle.pepa_reader.specs.Reading.{FindsSmall, FindsWord, ReadsSet, ReadsCooperation};
+ghost use Rattle.pepa_reader.specs.Reading.{FindsWord, ReadsSet, ReadsCooperation};
 
 use crate::trees::Indices;
 use fault_ends::End;
@@ -18,21 +18,11 @@ pub(crate) struct WordsRead {
     pub next: usize,
 }
 
-/// The index after the small name at the index, if there is one.
-pub(crate) fn small(text: &Text, at: usize) -> Option<usize>
-    ensures { FindsSmall (kinds_of text.now) at result }
-{
-    if let Some(next) = text.after(at, Terminal::Small) {
-        return Some(next);
-    }
-    text.after(at, Terminal::Probe)
-}
-
 /// The index after the word at the index, if there is one.
 pub(crate) fn word(text: &Text, at: usize) -> Option<usize>
     ensures { FindsWord (kinds_of text.now) at result }
 {
-    if let Some(next) = small(text, at) {
+    if let Some(next) = text.small(at) {
         return Some(next);
     }
     text.after(at, Terminal::Tau)

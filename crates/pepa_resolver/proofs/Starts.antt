@@ -177,6 +177,14 @@ module _ (Bad : RateNode → ℕ → Type 0) (one_bad : (rate : RateNode) (i j :
       (process_placed at next (at + 2) process (omega arith) (omega arith))
       (lines_placed high next lines Refused one (omega arith))
       (process_line_or node rates Refused processes)
+  lines_placed high at (g.ProbeWritten target whole ∷ lines) Refused one to =
+      let e1 = length-append (line_spelled (g.ProbeWritten target whole)) (lines_spelled lines) in
+      let next = at + length (line_spelled (g.ProbeWritten target whole)) in
+      let others = LinesAt (rate_lines_from next lines) Refused (process_lines_from next lines) in
+      joined at next high (LinesAt [] Refused []) others others (omega arith) (omega arith)
+      (nowhere at next (LinesAt [] Refused []) (no_line Refused))
+      (lines_placed high next lines Refused one (omega arith))
+      (λ start i h. inr h)
 
 -- ---- the rates of a file
 

@@ -9,13 +9,14 @@ use Rattle.pepa_rates.specs.Fraction.{Fraction}
 use Rattle.pepa_rates.specs.declared.rate.Rate.{Rate}
 use Rattle.pepa_rates.specs.declared.rate.Rate.TheVariants.{Active, Passive}
 use Rattle.pepa_lexer.specs.declared.kinds.Token.{Token}
+use Rattle.token_grammar.specs.SmallNames.{small_spelled}
 use Rattle.pepa_reader.specs.declared.trees.FileTree.{FileTree}
 use Rattle.token_grammar.specs.Terminals.{terminals, terminal_of, name_at}
 use Rattle.pepa_lexer.specs.declared.kinds.Sign.TheVariants.{Closing, Semicolon, Dot, Plus, Slash, Greater, OpeningBrace, ClosingBrace}
 use Rattle.token_grammar.specs.declared.terminal.Terminal.{Terminal}
 use Rattle.token_grammar.specs.declared.terminal.Terminal.TheVariants.{Mark, Tau}
 use Rattle.pepa_reader.specs.Grammar as g
-use Rattle.pepa_reader.specs.Grammar.{sum_spelled, product_spelled, factor_spelled, rate_spelled, cooperation_spelled, process_spelled, choice_spelled, hidden_spelled, prefix_spelled, line_spelled, lines_spelled, item_spelled, file_spelled, words_spelled, further_words, word_spelled, small_spelled, sum_sign_spelled, product_sign_spelled, ending_spelled}
+use Rattle.pepa_reader.specs.Grammar.{sum_spelled, product_spelled, factor_spelled, rate_spelled, cooperation_spelled, process_spelled, choice_spelled, hidden_spelled, prefix_spelled, line_spelled, lines_spelled, item_spelled, file_spelled, words_spelled, further_words, word_spelled, sum_sign_spelled, product_sign_spelled, ending_spelled}
 use Rattle.pepa_reader.specs.Trees.{RateNode, NumberAt, NameAt, TopAt, OpAt, BracketOf, ProcessNode, ConstantAt, PrefixAt, ChoiceOf, CoopAt, HideOf, RateLineNode, ProcessLineNode, FileNode, sum_tree, product_tree, factor_tree, rate_tree, word_indices, cooperation_indices, process_tree, choice_tree, hidden_tree, prefix_tree, rate_lines_from, process_lines_from, file_tree, file_node_of}
 use Rattle.pepa_reader.specs.FileAnswers.{IsFileTree}
 use Rattle.pepa_resolver.specs.Parts.{names_in, constants_in, rates_in, RateSite, rate_ats, process_ats, processes_of}
@@ -145,6 +146,9 @@ module _ (low high : ℕ) where
   rate_lines_inside at (g.ProcessNamed process ∷ lines) from to =
       let e1 = length-append (line_spelled (g.ProcessNamed process)) (lines_spelled lines) in
       rate_lines_inside (at + length (line_spelled (g.ProcessNamed process))) lines (omega arith) (omega arith)
+  rate_lines_inside at (g.ProbeWritten target whole ∷ lines) from to =
+      let e1 = length-append (line_spelled (g.ProbeWritten target whole)) (lines_spelled lines) in
+      rate_lines_inside (at + length (line_spelled (g.ProbeWritten target whole))) lines (omega arith) (omega arith)
 
   process_lines_inside : (at : ℕ) (lines : List g.Line) → low ≤ at → at + length (lines_spelled lines) ≤ high → AllByRecursion (λ line. Inside low high line.line_at × EachInProcess (Inside low high) line.body) (process_lines_from at lines)
   process_lines_inside at [] from to = tt
@@ -155,6 +159,9 @@ module _ (low high : ℕ) where
       let e1 = length-append (line_spelled (g.ProcessNamed process)) (lines_spelled lines) in
       let e2 = length-append (process_spelled process) (Mark Semicolon ∷ []) in
       (((omega arith, omega arith), process_inside (at + 2) process (omega arith) (omega arith)), process_lines_inside (at + length (line_spelled (g.ProcessNamed process))) lines (omega arith) (omega arith))
+  process_lines_inside at (g.ProbeWritten target whole ∷ lines) from to =
+      let e1 = length-append (line_spelled (g.ProbeWritten target whole)) (lines_spelled lines) in
+      process_lines_inside (at + length (line_spelled (g.ProbeWritten target whole))) lines (omega arith) (omega arith)
 
 pub file_inside : (file : g.File) → EachInFile (Inside 0 (length (file_spelled file))) (file_tree file)
 file_inside file =

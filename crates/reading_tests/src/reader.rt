@@ -25,10 +25,6 @@ fn wildcard(line: u32, column: u32) -> FileFault {
     FileFault::Wildcard(at(line, column))
 }
 
-fn unsupported(line: u32, column: u32) -> FileFault {
-    FileFault::Unsupported(at(line, column))
-}
-
 fn column_behind(bytes: usize) -> Result<u32, Fail> {
     Ok(u32::try_from(bytes)?.saturating_add(1))
 }
@@ -254,13 +250,13 @@ fn faults(rt: HostRuntime) -> Result<(), Fail> {
         ("P <a,*> P", expected(1, 6)),
         ("P/{*}", expected(1, 4)),
         ("P <= P", expected(1, 3)),
-        ("probe a;", unsupported(1, 1)),
-        ("probe", unsupported(1, 1)),
-        ("probe;", unsupported(1, 1)),
-        ("probe [", unsupported(1, 1)),
-        ("probe probe = 1;", unsupported(1, 1)),
-        ("P = (a,1).P; probe P :: a;", unsupported(1, 14)),
-        ("r = 1;\n\tprobe P; P[3]", unsupported(2, 2)),
+        ("probe a;", expected(1, 9)),
+        ("probe", expected(1, 6)),
+        ("probe;", expected(1, 6)),
+        ("probe [", array(1, 7)),
+        ("probe probe = 1;", expected(1, 13)),
+        ("P = (a,1).P; probe P :: a;", expected(1, 27)),
+        ("r = 1;\n\tprobe P; P[3]", expected(2, 9)),
         // The least place goes first.
         ("P = Q[3]; probe P; P", array(1, 6)),
         ("P = (; probe P; P", expected(1, 6)),
@@ -368,7 +364,7 @@ fn limits(rt: HostRuntime) -> Result<(), Fail> {
         ("P/{}", "+P", 1021, ";P", Some(expected(1, 2048))),
         ("P=Q++", "Q+", 3000, "", Some(expected(1, 5))),
         ("P<", "*", 3000, "", Some(wildcard(1, 3))),
-        ("probe", " P", 3000, "", Some(unsupported(1, 1))),
+        ("probe", " P", 3000, "", Some(expected(1, 9))),
     ];
     for (front, piece, count, back, want) in table {
         let text = nested(rt.alloc(), front, (piece, "", ""), count, back)?;

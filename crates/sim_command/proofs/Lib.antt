@@ -10,3 +10,5 @@ pub mod SoundEndings
 pub mod WordsOutcome
 pub mod OneAnswer
 pub mod PrintedAgain
+pub mod SomeAnswer
+pub mod SomeOutcome

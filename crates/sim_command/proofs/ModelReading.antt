@@ -35,7 +35,6 @@ module _ (input : List ℕ) where
     of_file (reader.TooDeep place) h = inr (inl (record { tokens = tokens; are_tokens = are; fault = reader.TooDeep place; is_fault = h; named = refl }))
     of_file (reader.Array place) h = inr (inl (record { tokens = tokens; are_tokens = are; fault = reader.Array place; is_fault = h; named = refl }))
     of_file (reader.Wildcard place) h = inr (inl (record { tokens = tokens; are_tokens = are; fault = reader.Wildcard place; is_fault = h; named = refl }))
-    of_file (reader.Unsupported place) h = inr (inl (record { tokens = tokens; are_tokens = are; fault = reader.Unsupported place; is_fault = h; named = refl }))
     of_file reader.Memory h = tt
 
     pub no_file : (fault : FileFault) (end : ModelFault) → end ≡ fault_from_file fault → ReadsFile input tokens (Err fault) → ReadsModel input (Err end)

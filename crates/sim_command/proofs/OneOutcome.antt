@@ -14,7 +14,7 @@ use Rattle.pepa_reader.proofs.FileLaws as files
 use Rattle.pepa_model.specs.PepaModel.{PepaModel}
 use Rattle.pepa_checks.specs.declared.cause.CheckCause.{CheckCause}
 use Rattle.pepa_checks.specs.CheckedFiles.{IsRefused, IsModelOf, IsShortTextOf}
-use Rattle.pepa_checks.proofs.OneRefusal.{one_refusal, refused_or_read}
+use Rattle.pepa_checks.proofs.ProbeLines.{one_refusal, refused_or_read}
 use Rattle.sim_report.specs.declared.fault.FaultName.{FaultName}
 use Rattle.sim_command.specs.declared.model_reading.ModelFault.{ModelFault}
 use Rattle.sim_command.specs.declared.model_reading.ModelFault.TheVariants.{Refused}

@@ -8,3 +8,4 @@ pub mod SoundEndings
 pub mod ShortTexts
 pub mod FirstSteps
 pub mod AnswerLaws
+pub mod OutcomeLaws

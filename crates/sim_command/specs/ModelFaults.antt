@@ -39,11 +39,11 @@ fault_from_file (reader.Expected place) = Refused place names.Expected
 fault_from_file (reader.TooDeep place) = Refused place names.TooDeep
 fault_from_file (reader.Array place) = Refused place names.Array
 fault_from_file (reader.Wildcard place) = Refused place names.Wildcard
-fault_from_file (reader.Unsupported place) = Refused place names.Unsupported
 fault_from_file reader.Memory = Memory
 
 -- the name of each cause for which the check refuses a file
 abbrev pub cause_name : CheckCause → FaultName
+cause_name causes.Unsupported = names.Unsupported
 cause_name causes.Twice = names.Twice
 cause_name causes.UnknownName = names.UnknownName
 cause_name causes.TauInSet = names.TauInSet

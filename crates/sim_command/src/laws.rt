@@ -1,6 +1,8 @@
 //! Laws of the definitions. Each function's contract is a law, and a call costs nothing.
 ghost use Rattle.std.specs.Prelude.{ℕ, List};
 ghost use Rattle.sim_command.specs.declared.words.Command.{Command};
+ghost use Rattle.pepa_model.specs.PepaModel.{PepaModel, IsModel};
+ghost use Rattle.sim_command.specs.OutcomeLaws.{HasSomeOutcome, HasModelAnswer, HasAnswerIfRead, HasSomeAnswer};
 ghost use Rattle.sim_command.specs.AnswerLaws.{HasOneModel, HasOneModelFault, HasModelOrFault, HasOneAnswer, HasAnswerOfPrinted, HasSoundEndings, HasWordsOutcome};
 
 /// An input has at most one model or one fault, and not both.
@@ -30,4 +32,17 @@ pub fn sound_ending()
 /// Words give a command, or they give none.
 pub fn words_outcome()
     ensures { (words : List (List ℕ)) → HasWordsOutcome words }
+{}
+
+/// An input of at most 2^20 bytes has a model or a first fault. The law is a double negation: it can't have neither.
+pub fn some_outcome()
+    ensures { (input : List ℕ) → HasSomeOutcome input }
+{}
+
+/// Each command has an answer for each model, and so to each input that has one. An input of at most 2^20 bytes has an
+/// answer to each: that is a double negation, it can't have none.
+pub fn some_answer()
+    ensures of_model { (command : Command) (m : PepaModel) → IsModel m → HasModelAnswer command m }
+    ensures if_read { (command : Command) (input : List ℕ) → HasAnswerIfRead command input }
+    ensures of_input { (command : Command) (input : List ℕ) → HasSomeAnswer command input }
 {}

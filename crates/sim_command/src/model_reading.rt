@@ -45,7 +45,6 @@ impl From<FileFault> for ModelFault {
             FileFault::TooDeep(place) => refused(place, FaultName::TooDeep),
             FileFault::Array(place) => refused(place, FaultName::Array),
             FileFault::Wildcard(place) => refused(place, FaultName::Wildcard),
-            FileFault::Unsupported(place) => refused(place, FaultName::Unsupported),
             FileFault::Memory => ModelFault::Memory,
         }
     }
@@ -89,6 +88,7 @@ fn name_of(cause: CheckCause) -> FaultName
     ensures { result ≡ cause_name cause }
 {
     match cause {
+        CheckCause::Unsupported => FaultName::Unsupported,
         CheckCause::Twice => FaultName::Twice,
         CheckCause::UnknownName => FaultName::UnknownName,
         CheckCause::TauInSet => FaultName::TauInSet,

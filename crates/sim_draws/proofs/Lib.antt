@@ -3,3 +3,5 @@ pub mod Rounds
 pub mod Runs
 pub mod Limits
 pub mod UsedNumbers
+pub mod OneDraw
+pub mod SomeDraw

@@ -1,23 +1,27 @@
 //! Laws of draws. Each function's contract is a law, and a call costs nothing.
 
-ghost use Rattle.std.specs.Prelude.{◌≡◌, ℕ, ◌+◌, ◌-◌, ◌*◌, ◌/◌, ◌%◌, ◌^◌, ◌<◌, ◌≤◌, List, ◌++◌, length, slice_index};
+ghost use Rattle.std.specs.Prelude.{◌≡◌, ℕ, ◌+◌, ◌-◌, ◌*◌, ◌/◌, ◌%◌, ◌^◌, ◌<◌, ◌≤◌, ◌⊎◌, List, ◌++◌, length, slice_index};
 ghost use Rattle.sim_draws.specs.ExponentialDraw.{run_length, IsExponentialDraw, NoExponentialDraw};
 ghost use Rattle.sim_draws.specs.FairDraw.{fair_limit, IsDrawBelow, NoDrawBelow};
 
-/// A list has at most one exponential draw, by one count of its numbers, and none where no round decides.
+/// A list has at most one exponential draw, by one count of its numbers; it has none exactly where no round decides.
 pub fn one_exponential_draw()
     ensures draw { (xs : List ℕ) (d u e v : ℕ)
         → IsExponentialDraw xs d u → IsExponentialDraw xs e v → (d ≡ e) × (u ≡ v) }
     ensures none { (xs : List ℕ) (d u : ℕ)
         → IsExponentialDraw xs d u → NoExponentialDraw xs → ⊥ }
+    ensures some { (xs : List ℕ)
+        → ((d : ℕ) × ((u : ℕ) × IsExponentialDraw xs d u)) ⊎ NoExponentialDraw xs }
 {}
 
-/// A list has at most one draw below a bound, by one count of its numbers, and none where no number is below the limit.
+/// A list has at most one draw below a bound, by one count of its numbers; it has none exactly where no number is below the limit.
 pub fn one_draw_below()
     ensures draw { (xs : List ℕ) (bound d u e v : ℕ)
         → IsDrawBelow xs bound d u → IsDrawBelow xs bound e v → (d ≡ e) × (u ≡ v) }
     ensures none { (xs : List ℕ) (bound d u : ℕ)
         → IsDrawBelow xs bound d u → NoDrawBelow xs bound → ⊥ }
+    ensures some { (xs : List ℕ) (bound : ℕ)
+        → ((d : ℕ) × ((u : ℕ) × IsDrawBelow xs bound d u)) ⊎ NoDrawBelow xs bound }
 {}
 
 /// A draw is decided by the numbers that it uses: it is the same whatever follows them.

@@ -1,6 +1,7 @@
 pub mod ListsLoaded
 pub mod UnderWay
-pub mod OneDraw
-pub mod OneFirst
+pub mod FirstOnes
 pub mod OneJump
 pub mod OneRun
+pub mod SomeJump
+pub mod SomeRun

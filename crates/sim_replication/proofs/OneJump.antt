@@ -10,7 +10,7 @@ use Rattle.pepa_steps.specs.declared.entries.Entry.{Entry}
 use Rattle.pepa_steps.proofs.OneState.{one_list}
 use Rattle.pepa_steps.proofs.OneVerdict.{one_verdict, verdict_or_none}
 use Rattle.sim_draws.specs.FairDraw.{IsDrawBelow}
-use Rattle.sim_replication.proofs.OneDraw.{one_exponential, not_both, one_below, none_below}
+use Rattle.sim_draws.proofs.OneDraw.{one_exponential, not_both, one_below, none_below}
 use Rattle.sim_space.specs.Stops.{stop_of_verdict}
 use Rattle.sim_space.specs.LoadedLists.{weights_in, IsChoiceList, IsChosen}
 use Rattle.sim_space.specs.declared.stop.Stop.{Stop}

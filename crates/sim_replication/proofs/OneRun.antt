@@ -13,7 +13,7 @@ use Rattle.sim_replication.specs.declared.ran.Ending.TheVariants.{Done, Deadlock
 use Rattle.sim_replication.specs.Signals.{TakenJump, passages_of}
 use Rattle.sim_replication.specs.Jumps.{Point, JumpsTo, StopsBy}
 use Rattle.sim_replication.specs.Runs.{Walk, AsksForMore, begin_at, BeginsRun, EndsBy, IsRun, IsStoppedRun}
-use Rattle.sim_replication.proofs.OneFirst.{one_first}
+use Rattle.sim_replication.proofs.FirstOnes.{one_first}
 use Rattle.sim_replication.proofs.OneJump.{one_jump, one_stop, stop_or_dead, stop_or_jump, dead_or_jump}
 
 -- the replication is over at this point: it ends, or it stops where the order asks for more

@@ -1,5 +1,5 @@
 -- A replication: jumps from the first state on, one after the other, until one of the checks before a jump ends or stops it.
-use Rattle.std.specs.Prelude.{◌≡◌, ⊤, ℕ, ◌<◌, ◌≤◌, Result, Ok, Err, List, [], ◌∷◌, length, take, All}
+use Rattle.std.specs.Prelude.{◌≡◌, ⊤, ℕ, ◌<◌, ◌≤◌, ◌⊎◌, Result, Ok, Err, List, [], ◌∷◌, length, take, All}
 use Rattle.pepa_model.specs.PepaModel.{PepaModel}
 use Rattle.pepa_steps.specs.States.{State}
 use Rattle.probe_attach.specs.FirstStates.{IsFirstState}
@@ -53,6 +53,12 @@ pub record IsStoppedRun (m : PepaModel) (order : Order) (at : ℕ → ℕ) (take
   pub begins : BeginsRun m order at taken last
   pub asks : AsksForMore order taken
   pub stops : StopsBy m at last stop
+
+-- there is a replication that ends, or one that stops
+abbrev pub HasRun : PepaModel → Order → (ℕ → ℕ) → Type 0
+HasRun m order at =
+    ((taken : List TakenJump) × ((last : Point) × ((ran : Ran) × IsRun m order at taken last ran)))
+    ⊎ ((taken : List TakenJump) × ((last : Point) × ((stop : Stop) × IsStoppedRun m order at taken last stop)))
 
 -- each state that the replication visits is one of these
 abbrev pub VisitsOnly : PepaModel → Order → (ℕ → ℕ) → (State → Type 0) → Type 0

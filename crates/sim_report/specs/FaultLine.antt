@@ -6,7 +6,7 @@ use Rattle.sim_report.specs.declared.fault.FaultName.TheVariants.{BadByte, BadNu
 use Rattle.sim_space.specs.declared.stop.Stop.{Stop}
 use Rattle.sim_space.specs.declared.stop.Stop.TheVariants.{Mixed, Overflow, ListTooLong, PassiveLeft, WeightOverflow, TimeOverflow, DrawLimit}
 use Rattle.sim_report.specs.declared.fault.Fault.{Fault}
-use Rattle.sim_report.specs.declared.fault.Fault.TheVariants.{Memory, Usage, TooLong, Model, ReadFault, WriteFault, StepsStopped}
+use Rattle.sim_report.specs.declared.fault.Fault.TheVariants.{Memory, Usage, TooLong, Model, ReadFault, WriteFault, RunStopped, StepsStopped, TableFull}
 
 -- what is wrong with a text that is no model
 abbrev pub name_text : FaultName → List ℕ
@@ -51,7 +51,9 @@ fault_words TooLong = codes "model too long"
 fault_words (Model place name) = codes "model " ++ place_text place ++ codes " " ++ name_text name
 fault_words ReadFault = codes "read fault"
 fault_words WriteFault = codes "write fault"
+fault_words (RunStopped number stop) = codes "replication " ++ decimal number ++ codes " stopped: " ++ stop_text stop
 fault_words (StepsStopped stop) = codes "stopped: " ++ stop_text stop
+fault_words TableFull = codes "table full"
 
 -- the words, and a line feed
 abbrev pub fault_text : Fault → List ℕ

@@ -2,3 +2,4 @@ pub mod FaultLine
 pub mod StepsText
 pub mod TransitionsText
 pub mod CheckText
+pub mod Report

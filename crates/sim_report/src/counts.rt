@@ -18,17 +18,22 @@ pub fn check_text(alloc: Global, model: &Model) -> Result<Bytes, AllocError>
     let actions = &model.actions;
     let leaves = system_leaves(alloc, model)?;
     let mut text = Vec::new(alloc);
-    push_count(alloc, &mut text, b"ok constants ", constants.len())?;
-    push_count(alloc, &mut text, b" actions ", actions.len() - 1)?;
-    push_count(alloc, &mut text, b" probes 0 leaves ", leaves as usize)?;
+    push_count(alloc, &mut text, b"ok constants ", constants.len() as u64)?;
+    push_count(alloc, &mut text, b" actions ", actions.len() as u64 - 1)?;
+    push_count(alloc, &mut text, b" probes 0 leaves ", u64::from(leaves))?;
     text.push(b'\n')?;
     Ok(Bytes::from_vec(text))
 }
 
 /// Appends words and a number.
-fn push_count(alloc: Global, to: &mut Vec<u8>, words: &[u8], count: usize) -> Result<(), AllocError>
+pub(crate) fn push_count(
+    alloc: Global,
+    to: &mut Vec<u8>,
+    words: &[u8],
+    count: u64,
+) -> Result<(), AllocError>
     ensures { OnOk result (to.new.items ≡ to.old.items ++ words.now ++ decimal count) }
 {
     to.extend_from_slice(words)?;
-    push_decimal(alloc, to, count as u128)
+    push_decimal(alloc, to, u128::from(count))
 }

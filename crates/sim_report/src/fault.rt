@@ -40,7 +40,7 @@ pub enum FaultName {
     Unguarded,
     /// A component has an active and a passive activity of one type.
     MixedChoice,
-    /// A probe line, which isn't read yet.
+    /// A probe line, which isn't supported yet.
     Unsupported,
 }
 
@@ -59,6 +59,10 @@ pub enum Fault {
     ReadFault,
     /// A write failed.
     WriteFault,
+    /// This replication is the first that stopped, and for this reason.
+    RunStopped { number: u64, stop: Stop },
     /// The verdict on the first state names this stop.
     StepsStopped { stop: Stop },
+    /// The table that workers share has no room.
+    TableFull,
 }

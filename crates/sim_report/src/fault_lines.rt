@@ -27,7 +27,9 @@ fn words(fault: &Fault) -> Line
         Fault::Model { place, name } => model_words(place, name),
         Fault::ReadFault => of_text(b"read fault"),
         Fault::WriteFault => of_text(b"write fault"),
+        Fault::RunStopped { number, stop } => run_words(*number, stop),
         Fault::StepsStopped { stop } => stop_words(stop),
+        Fault::TableFull => of_text(b"table full"),
     }
 }
 
@@ -45,9 +47,9 @@ fn model_words(place: &Place, name: &FaultName) -> Line
     ensures room { length result ≤ 100 }
 {
     let mut line = of_text(b"model ");
-    line.push_decimal(place.line);
+    line.push_decimal(u64::from(place.line));
     line.push(b':');
-    line.push_decimal(place.column);
+    line.push_decimal(u64::from(place.column));
     line.push(b' ');
     line.push_text(fault_name(name));
     line
@@ -77,6 +79,17 @@ fn fault_name(name: &FaultName) -> &[u8]
         FaultName::MixedChoice => b"mixed choice",
         FaultName::Unsupported => b"unsupported",
     }
+}
+
+fn run_words(number: u64, stop: &Stop) -> Line
+    ensures words { result ≡ fault_words (Fault.RunStopped number stop.now) }
+    ensures room { length result ≤ 100 }
+{
+    let mut line = of_text(b"replication ");
+    line.push_decimal(number);
+    line.push_text(b" stopped: ");
+    line.push_text(stop_name(stop));
+    line
 }
 
 fn stop_words(stop: &Stop) -> Line

@@ -1,4 +1,4 @@
-//! The texts of transitions, of a model's counts and of faults.
+//! The texts of transitions, of a model's counts, of a summary and of faults.
 //!
 //! A transition is a line `action rate target`; the counts of a model are one line; a fault is one line too, which needs no
 //! memory:
@@ -14,10 +14,14 @@ mod counts;
 mod fault;
 mod fault_lines;
 mod line;
+mod probe_ask;
+mod report_text;
 mod transition_text;
 
 pub use counts::check_text;
 pub use fault::{Fault, FaultName};
 pub use fault_lines::fault_line;
 pub use line::Line;
+pub use probe_ask::{Names, ProbeAsk};
+pub use report_text::report;
 pub use transition_text::steps_text;

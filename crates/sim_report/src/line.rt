@@ -59,16 +59,16 @@ impl Line {
         }
     }
 
-    /// Appends the decimal digits of a number, at most 10.
-    pub(crate) fn push_decimal(&mut self, value: u32)
-        requires { length self.old + 10 ≤ 128 }
+    /// Appends the decimal digits of a number, at most 20.
+    pub(crate) fn push_decimal(&mut self, value: u64)
+        requires { length self.old + 20 ≤ 128 }
         ensures digits { self.new ≡ self.old ++ decimal value }
-        ensures few { length self.new ≤ length self.old + 10 }
+        ensures few { length self.new ≤ length self.old + 20 }
     {
         self.push_digits(value);
     }
 
-    fn push_digits(&mut self, value: u32)
+    fn push_digits(&mut self, value: u64)
         requires { length self.old + length (decimal value) ≤ 128 }
         ensures { self.new ≡ self.old ++ decimal value }
     {

@@ -2,12 +2,10 @@
 //!
 //! The functions take models and spaces by reference and answer a truth: one that owns a model is long to prove.
 
-use pepa_checks::check;
-use pepa_lexer::tokens;
 use pepa_model::{Model, Term};
-use pepa_reader::read_file;
 use plain_space::PlainSpace;
 use sim_space::{Halt, Jump, Loaded, Space, Stop};
+use small_models::model_of;
 use std::alloc::Global;
 use std::test::Fail;
 
@@ -21,6 +19,11 @@ const ROWS: &[Row] = &[
     ("P = (a,infty).P; P", Err(Stop::PassiveLeft)),
     ("P = (a,1).P; Q = (a,infty).Q; P || Q", Err(Stop::Mixed)),
     ("P = (a,4398046511103).P; P || P", Err(Stop::Overflow)),
+    // Two ways for each of sixteen: 65,536 in all.
+    (
+        "P = (a,1).P + (a,1).P; B = P <a> P; C = B <a> B; D = C <a> C; D <a> D",
+        Err(Stop::ListTooLong),
+    ),
     (
         "P = (a,1/4398046511103).P + (b,1/4398046511102).P; P",
         Err(Stop::WeightOverflow),
@@ -40,15 +43,6 @@ fn row_holds(alloc: Global, text: &[u8], want: &Result<(u32, u64, u64), Stop>) -
         Some(model) => loads(alloc, &model, want),
         None => false,
     }
-}
-
-fn model_of(alloc: Global, text: &[u8]) -> Option<Model> {
-    if text.len() > 1 << 20 {
-        return None;
-    }
-    let list = tokens(alloc, text).ok()?;
-    let tree = read_file(alloc, list.as_slice(), text).ok()?;
-    check(alloc, &tree, list.as_slice(), text).ok()
 }
 
 fn loads(alloc: Global, model: &Model, want: &Result<(u32, u64, u64), Stop>) -> bool {

@@ -27,7 +27,7 @@ use Rattle.chain_rule.specs.declared.meaning.Setting.{Setting}
 use Rattle.chain_rule.specs.declared.view.View.{View}
 use Rattle.chain_rule.specs.Told.{seat_begun, phase_begun, offer_begun, view_begun, Turned, TookTurn}
 use Rattle.chain_rule.specs.Pacing.{IsPaced}
-use Rattle.chain_rule.proofs.Turning.{turn_made, turn_pass}
+use Rattle.chain_rule.proofs.MadeEntries.{turn_made, turn_pass}
 use Rattle.term_table.specs.Calls.{HasAnswered, IsGoing, steps_left, HasKey, IsNumberOf, WasFull, reply_of}
 
 -- a step of a call ended it, in time, or took it on

@@ -3,6 +3,7 @@
 ghost use Rattle.std.specs.Prelude.{◌≡◌, ◌<◌, IsTrue, length};
 ghost use Rattle.token_grammar.specs.Terminals.{name_at};
 ghost use Rattle.token_grammar.specs.Cursors.{kinds_of, TellsWhether, IsIndexAfter, Expects};
+ghost use Rattle.token_grammar.specs.SmallNames.{FindsSmall};
 
 use crate::terminal::{Terminal, bytes_of, is_same, terminal_of};
 use fault_ends::End;
@@ -39,6 +40,16 @@ impl Text<'_, '_> {
         } else {
             None
         }
+    }
+
+    /// The index after the small name at the index, if there is one. `probe` is a small name.
+    pub fn small(&self, at: usize) -> Option<usize>
+        ensures { FindsSmall (kinds_of self.now) at result }
+    {
+        if let Some(next) = self.after(at, Terminal::Small) {
+            return Some(next);
+        }
+        self.after(at, Terminal::Probe)
     }
 
     /// The index after this terminal, which has to stand at the index.

@@ -126,6 +126,10 @@ fn push_front(out: &mut String) -> Result<(), AllocError> {
 #[test]
 fn kinds_in_order(rt: HostRuntime) -> Result<(), Fail> {
     let table = [
+        (
+            CheckCause::Unsupported,
+            "P=P;@probe a;probe Z::{Y>1}b;(a,0).X/{tau}||C7",
+        ),
         (CheckCause::Twice, "@P=(b,1).P;C7"),
         (CheckCause::UnknownName, "C7||@X"),
         (CheckCause::TauInSet, "C7/{@tau}"),

@@ -1,6 +1,6 @@
 //! What can follow at each place of the grammar: every token behind many fronts.
 
-use super::{at, column_behind, fault_of, unsupported};
+use super::{at, column_behind, fault_of};
 use pepa_lexer::Place;
 use pepa_reader::FileFault;
 use std::alloc::Global;
@@ -55,7 +55,6 @@ fn goes_on(found: Option<FileFault>, place: Place, end: Place) -> bool {
     match found {
         None => true,
         Some(FileFault::Expected(there)) => there == end && there != place,
-        Some(FileFault::Unsupported(there)) => there == place,
         _ => false,
     }
 }
@@ -188,14 +187,23 @@ fn what_can_follow_in_prefixes_and_systems(rt: HostRuntime) -> Result<(), Fail> 
 
 // `probe` begins a probe line wherever another token than `=` follows it.
 #[test]
-fn probe_lines(rt: HostRuntime) -> Result<(), Fail> {
-    for (front, column) in [("probe", 1), ("r = 1; probe", 8), ("P = Q; probe", 8)] {
-        for token in TOKENS {
-            let text = format!(in rt.alloc(); "{front} {token}")?;
-            let found = fault_of(&rt, rt.alloc(), text.as_bytes())?;
-            let is_refused = found == Some(unsupported(1, column));
-            assert_eq!(rt; is_refused, *token != "=", "{text}");
-        }
+fn what_can_follow_in_probe_lines(rt: HostRuntime) -> Result<(), Fail> {
+    let behind_probe = ["a", "probe", "P", "(", "{", "="].as_slice();
+    let behind_letter = ["1", "2.5", ";", ",", "+", "*", "/", "|", "{", ":", "?"].as_slice();
+    let table = [
+        ("probe", behind_probe),
+        ("r = 1; probe", behind_probe),
+        ("P = Q; probe", behind_probe),
+        ("probe P", ["::"].as_slice()),
+        ("probe P ::", ["a", "probe", "(", "{"].as_slice()),
+        ("probe a", behind_letter),
+        ("probe P :: probe", behind_letter),
+        ("probe (a)", behind_letter),
+        ("probe {P <", ["1", "2.5"].as_slice()),
+        ("probe a;", ITEM),
+    ];
+    for (front, followers) in table {
+        goes_on_with(&rt, rt.alloc(), front, followers)?;
     }
     Ok(())
 }

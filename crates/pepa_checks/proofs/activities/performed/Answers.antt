@@ -35,31 +35,31 @@ loop-constant-init c = record {
 }
 
 pub bounds-compounds-constant : goal.bounds-compounds-constant
-bounds-compounds-constant c = in_file c.args.compounds.now c.args.order.now c.args.constants.now c.args.leaves.now c.requires c.loop-constant.constant-index c.loop-constant-test.true
+bounds-compounds-constant c = in_file c.args.file.compounds.now c.args.file.sequential_order.now c.args.constants.now c.args.leaves.now c.requires c.loop-constant.constant-index c.loop-constant-test.true
 
 pub bounds-constants-constant : goal.bounds-constants-constant
 bounds-constants-constant c =
-    let low = in_file c.args.compounds.now c.args.order.now c.args.constants.now c.args.leaves.now c.requires c.loop-constant.constant-index c.loop-constant-test.true in
+    let low = in_file c.args.file.compounds.now c.args.file.sequential_order.now c.args.constants.now c.args.leaves.now c.requires c.loop-constant.constant-index c.loop-constant-test.true in
     let e = c.requires.constant_leaves.one_each in
     omega arith
 
 pub bounds-leaves-number : goal.bounds-leaves-number
 bounds-leaves-number c =
-    let low = in_file c.args.compounds.now c.args.order.now c.args.constants.now c.args.leaves.now c.requires c.loop-constant.constant-index c.loop-constant-test.true in
-    has_leaf c.args.compounds.now c.args.order.now c.args.constants.now c.args.leaves.now c.requires (get_or c.args.order.now c.loop-constant.constant-index 0) low c.if-not-compounds-constant.true
+    let low = in_file c.args.file.compounds.now c.args.file.sequential_order.now c.args.constants.now c.args.leaves.now c.requires c.loop-constant.constant-index c.loop-constant-test.true in
+    has_leaf c.args.file.compounds.now c.args.file.sequential_order.now c.args.constants.now c.args.leaves.now c.requires (get_or c.args.file.sequential_order.now c.loop-constant.constant-index 0) low c.if-not-compounds-constant.true
 
 pub make-requires-clause-within : goal.make-requires-clause-within
 make-requires-clause-within c =
-    let low = in_file c.args.compounds.now c.args.order.now c.args.constants.now c.args.leaves.now c.requires c.loop-constant.constant-index c.loop-constant-test.true in
-    let h = has_leaf c.args.compounds.now c.args.order.now c.args.constants.now c.args.leaves.now c.requires (get_or c.args.order.now c.loop-constant.constant-index 0) low c.if-not-compounds-constant.true in
+    let low = in_file c.args.file.compounds.now c.args.file.sequential_order.now c.args.constants.now c.args.leaves.now c.requires c.loop-constant.constant-index c.loop-constant-test.true in
+    let h = has_leaf c.args.file.compounds.now c.args.file.sequential_order.now c.args.constants.now c.args.leaves.now c.requires (get_or c.args.file.sequential_order.now c.loop-constant.constant-index 0) low c.if-not-compounds-constant.true in
     let e = c.loop-constant.invariant.sizes in
     omega arith
 
 pub returns-in_err-make-clause-performed : goal.returns-in_err-make-clause-performed
 returns-in_err-make-clause-performed c =
     let p = err_from_is_err_and c.from_residual-in_err-make.result c.from_residual-in_err-make.ensures.1 in
-    let compounds = c.args.compounds.now in
-    let order = c.args.order.now in
+    let compounds = c.args.file.compounds.now in
+    let order = c.args.file.sequential_order.now in
     let constants = c.args.constants.now in
     let leaves = c.args.leaves.now in
     let k = c.loop-constant.constant-index in
@@ -76,8 +76,8 @@ returns-in_err-make-clause-performed c =
 
 pub loop-constant-preserved : goal.loop-constant-preserved
 loop-constant-preserved c =
-    let compounds = c.args.compounds.now in
-    let order = c.args.order.now in
+    let compounds = c.args.file.compounds.now in
+    let order = c.args.file.sequential_order.now in
     let constants = c.args.constants.now in
     let leaves = c.args.leaves.now in
     let k = c.loop-constant.constant-index in
@@ -113,14 +113,14 @@ loop-constant-preserved c =
 
 pub loop-number-init : goal.loop-number-init
 loop-number-init c =
-    let order = c.args.order.now in
+    let order = c.args.file.sequential_order.now in
     let so_far = c.loop-constant.invariant in
     record {
       kept = so_far.kept;
       sizes = so_far.sizes;
       sound = so_far.sound;
       ready = λ d flag_is.
-          let among = all_in_order c.args.compounds.now order c.args.constants.now c.args.leaves.now c.requires d flag_is in
+          let among = all_in_order c.args.file.compounds.now order c.args.constants.now c.args.leaves.now c.requires d flag_is in
           so_far.ready d (subst (λ (xs : List ℕ). Contains xs d) (sym (take_all c.loop-constant.constant-index order c.loop-constant-test.false)) among) flag_is;
       made = λ n none. absurd (omega arith);
     }
@@ -128,8 +128,8 @@ loop-number-init c =
 pub returns-in_err-make-2-clause-performed : goal.returns-in_err-make-2-clause-performed
 returns-in_err-make-2-clause-performed c =
     let p = err_from_is_err_and c.from_residual-in_err-make-2.result c.from_residual-in_err-make-2.ensures.1 in
-    let compounds = c.args.compounds.now in
-    let order = c.args.order.now in
+    let compounds = c.args.file.compounds.now in
+    let order = c.args.file.sequential_order.now in
     let constants = c.args.constants.now in
     let leaves = c.args.leaves.now in
     let number = c.loop-number.number in
@@ -143,8 +143,8 @@ returns-in_err-make-2-clause-performed c =
 
 pub loop-number-preserved : goal.loop-number-preserved
 loop-number-preserved c =
-    let compounds = c.args.compounds.now in
-    let order = c.args.order.now in
+    let compounds = c.args.file.compounds.now in
+    let order = c.args.file.sequential_order.now in
     let constants = c.args.constants.now in
     let leaves = c.args.leaves.now in
     let number = c.loop-number.number in
@@ -169,5 +169,5 @@ pub returns-clause-performed : goal.returns-clause-performed
 returns-clause-performed c =
     let so_far = c.loop-number.invariant in
     λ choices.
-    are_performed c.args.compounds.now c.args.order.now c.args.constants.now c.args.leaves.now choices c.loop-number.lists.made c.loop-number.lists.lists (so_far.sound choices) so_far.sizes
+    are_performed c.args.file.compounds.now c.args.file.sequential_order.now c.args.constants.now c.args.leaves.now choices c.loop-number.lists.made c.loop-number.lists.lists (so_far.sound choices) so_far.sizes
     (λ n low. so_far.made n (omega arith))

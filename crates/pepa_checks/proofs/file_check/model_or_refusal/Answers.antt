@@ -16,7 +16,7 @@ model_of-requires c = ready c.args.input.now c.args.tokens.now c.args.tree.now c
 
 pub returns-in_ok-model_of-in-Ok : goal.returns-in_ok-model_of-in-Ok
 returns-in_ok-model_of-in-Ok c =
-    read c.args.input.now c.args.tokens.now c.args.tree.now c.requires.tokens c.requires.tree c.in_ok-file.file c.in_ok-file.ensures c.in-Ok.counted c.in-Ok.ensures.0 c.in-Ok.ensures.1 c.in_ok-model_of-in-Ok.field-0 c.in_ok-model_of-in-Ok.ensures
+    read c.args.input.now c.args.tokens.now c.args.tree.now c.requires.tokens c.requires.tree c.in_ok-file.file c.in_ok-file.ensures c.in-Ok.counted c.in-Ok.ensures.0 c.in-Ok.ensures.1 c.in_ok-model_of-in-Ok.field-0 c.requires.probes c.in_ok-model_of-in-Ok.ensures
 
 pub returns-in-Err : goal.returns-in-Err
 returns-in-Err c = late_end c.args.input.now c.args.tokens.now c.args.tree.now c.requires.tokens c.requires.tree c.in_ok-file.file c.in_ok-file.ensures _ _ c.in-Err.end c.in-Err.ensures

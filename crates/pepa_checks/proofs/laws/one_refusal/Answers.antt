@@ -1,4 +1,4 @@
-use Rattle.pepa_checks.proofs.OneRefusal.{one_refusal}
+use Rattle.pepa_checks.proofs.ProbeLines.{one_refusal}
 use Rattle.pepa_checks.proofs.laws.one_refusal.Goals as goal
 
 pub returns : goal.returns

@@ -10,20 +10,20 @@ use Rattle.pepa_checks.proofs.shapes.definitions.Goals as goal
 
 pub body_of-requires-clause-sequential : goal.body_of-requires-clause-sequential
 body_of-requires-clause-sequential c =
-    c.requires.bodies.parts c.loop-number.number (named_of c.index-bodies-number.result) (body_at c.args.bodies.now c.loop-number.number c.index-bodies-number.result c.loop-number-test.true c.index-bodies-number.is)
+    c.requires.bodies.parts c.loop-number.number (named_of c.index-bodies-number.result) (body_at c.args.file.bodies.now c.loop-number.number c.index-bodies-number.result c.loop-number-test.true c.index-bodies-number.is)
 
 pub body_of-requires-clause-plain : goal.body_of-requires-clause-plain
 body_of-requires-clause-plain c plain =
-    let lt : c.loop-number.number < length c.args.bodies.now = c.loop-number-test.true in
-    let within : c.loop-number.number < length c.args.compounds.now = omega (arith, length-map c.args.bodies.now named_of, c.requires.one_each) in
-    c.requires.bodies.plain c.loop-number.number (named_of c.index-bodies-number.result) (body_at c.args.bodies.now c.loop-number.number c.index-bodies-number.result lt c.index-bodies-number.is)
-    (slice_get-get_or c.args.compounds.now c.loop-number.number false within ∙ ap Some plain)
+    let lt : c.loop-number.number < length c.args.file.bodies.now = c.loop-number-test.true in
+    let within : c.loop-number.number < length c.args.file.compounds.now = omega (arith, length-map c.args.file.bodies.now named_of, c.requires.one_each) in
+    c.requires.bodies.plain c.loop-number.number (named_of c.index-bodies-number.result) (body_at c.args.file.bodies.now c.loop-number.number c.index-bodies-number.result lt c.index-bodies-number.is)
+    (slice_get-get_or c.args.file.compounds.now c.loop-number.number false within ∙ ap Some plain)
 
 pub loop-number-preserved : goal.loop-number-preserved
 loop-number-preserved c =
     let n = c.loop-number.number in
-    let compounds = c.args.compounds.now in
-    let bodies = c.args.bodies.now in
+    let compounds = c.args.file.compounds.now in
+    let bodies = c.args.file.bodies.now in
     let lt : n < length bodies = c.loop-number-test.true in
     let one_each : length compounds ≡ length bodies = c.requires.one_each in
     let within : n < length compounds = omega arith in

@@ -1,0 +1,10 @@
+pub mod OptionRules
+pub mod LongWords
+pub mod WalkSteps
+pub mod UsesTaken
+pub mod TakenUses
+pub mod SpelledOptions
+pub mod EventNames
+pub mod GivenValues
+pub mod CommandLaws
+pub mod WordOutcomes

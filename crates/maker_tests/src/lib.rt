@@ -1,0 +1,8 @@
+//! Tests of made models.
+//!
+//! They call public functions alone, and have a crate of their own since a crate with tests is
+//! proved twice.
+#![tactic(auto)]
+
+#[cfg(test)]
+mod texts;

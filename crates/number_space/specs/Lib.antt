@@ -1,0 +1,2 @@
+pub mod NumberedStates
+pub mod GrowingLists

@@ -1,0 +1,9 @@
+pub mod ProbeRuns
+pub mod ProbeTexts
+pub mod ProbeEnds
+pub mod ProbeLaws
+pub mod GuardReading
+pub mod SuffixReading
+pub mod PartReading
+pub mod ExpressionReading
+pub mod ProbeHalts

@@ -1,0 +1,5 @@
+pub mod ProbeGrammar
+pub mod ProbeTrees
+pub mod ProbeMachine
+pub mod ProbeReading
+pub mod ProbeAnswers

@@ -1,0 +1,3 @@
+pub mod RankFacts
+pub mod HistogramFacts
+pub mod SummaryFacts
