@@ -5,6 +5,7 @@ It follows the rules in docs/DEFINITIONS.md with a ChaCha of its own, and runs n
 the tests of `sim_draws` expect, have to be those that come out here. The ChaCha is first checked by published vectors at 20
 rounds. Without FILE it prints the rows. The status is 1 where a vector or a row differs.
 """
+import functools
 import re
 import sys
 
@@ -97,9 +98,15 @@ def key_of(seed):
     return [int.from_bytes(octets[i : i + 4], "little") for i in range(0, 32, 4)]
 
 
+@functools.lru_cache(maxsize=256)
+def block_of(seed, stream, counter):
+    """Returns a block of a stream."""
+    return block(12, key_of(seed), counter, stream)
+
+
 def word(seed, stream, place):
     """Returns the word at a place of a stream."""
-    return block(12, key_of(seed), place // 16, stream)[place % 16]
+    return block_of(seed, stream, place // 16)[place % 16]
 
 
 def number(seed, stream, k):

@@ -1,12 +1,16 @@
 #!/usr/bin/env bash
 # Runs `pepaprobe steps` on each model of examples/, and `pepaprobe check` and `pepaprobe print` where their answers are known,
 # and compares the bytes of both streams and the status with the files beside it, which were worked out by hand
-# (examples/README.md). What is printed is printed again, and must be the same bytes.
+# (examples/README.md). What is printed is printed again, and must be the same bytes. Where there are words of `run`, the answer is that of
+# a second program (runs.py).
 # shellcheck source=tests/common.bash
 . "$(dirname -- "$0")/common.bash"
 build_program
 
 : >"$work/nothing"
+bin/pepaprobe run --runs 1 <examples/two-ways.pepa >/dev/null 2>&1
+[ $? -ne 2 ] && takes_run=yes || takes_run=
+[ -n "$takes_run" ] || skipped "answers of run: the program doesn't take it yet"
 count=0
 for model in examples/*.pepa; do
     [ -f "$model" ] || continue
@@ -32,6 +36,12 @@ for model in examples/*.pepa; do
         ended=$?
         compare_run "check of $model" 0 "$base.check" "$work/nothing"
     fi
+    if [ -n "$takes_run" ] && [ -f "$base.words" ]; then
+        read -ra words <"$base.words"
+        bin/pepaprobe "${words[@]}" <"$model" >"$work/out" 2>"$work/err"
+        ended=$?
+        compare_run "${words[*]} of $model" 0 "$base.run" "$work/nothing"
+    fi
     if [ -f "$base.print" ]; then
         for text in "$model" "$base.print"; do
             bin/pepaprobe print <"$text" >"$work/out" 2>"$work/err"
@@ -43,7 +53,7 @@ done
 [ "$count" -gt 0 ] || failed "examples/ has no model"
 
 # Each file beside a model belongs to one.
-for file in examples/*.steps examples/*.check examples/*.print examples/*.status examples/*.err; do
+for file in examples/*.steps examples/*.check examples/*.print examples/*.words examples/*.run examples/*.status examples/*.err; do
     [ -f "$file" ] || continue
     [ -f "${file%.*}.pepa" ] || failed "$file: there is no model ${file%.*}.pepa"
 done

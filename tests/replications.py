@@ -4,18 +4,20 @@
 It has the chain of each model written out by hand, and the streams and draws of draws.py. The rows of runs in FILE, which
 `replication_tests` expects, have to be those that come out here. Without FILE it prints the rows. The status is 1 where a row differs.
 """
-import functools
+import collections.abc
+import itertools
 import math
 import re
 import sys
 from fractions import Fraction
+from typing import NamedTuple
 
 import draws
 
 LATEST = 2**63
 
-# Each model, with its chain: for each state its transitions in derivation order, as a rate and the state after it. `None` in place of
-# the list is a state with a passive rate left.
+# Each model, with its chain: for each state its transitions in derivation order, as a rate and the state after it, and a set of signals
+# where it sends some. A stop's name in place of the list is that of the state's verdict.
 ONE = "P = (a,1).P; P"
 STUCK = "S = (z,1).S; Q = (y,1).Q; S <z,y> Q"
 PASSIVE = "P = (a,infty).P; P"
@@ -49,7 +51,7 @@ def beside():
 CHAINS = {
     ONE: {"P": [(Fraction(1), "P")]},
     STUCK: {"SQ": []},
-    PASSIVE: {"P": None},
+    PASSIVE: {"P": "PassiveLeft"},
     THREE: {
         "P": [(Fraction(5), "Q"), (Fraction(1, 3), "R")],
         "Q": [(Fraction(2), "P"), (Fraction(1, 7), "R")],
@@ -58,7 +60,7 @@ CHAINS = {
     ENDING: {"PY": [(Fraction(3), "PY"), (Fraction(1, 9), "QY")], "QY": []},
     SERVED: served(),
     BESIDE: beside(),
-    LEFT_OVER: {"P": [(Fraction(1), "Q"), (Fraction(2), "P")], "Q": None},
+    LEFT_OVER: {"P": [(Fraction(1), "Q"), (Fraction(2), "P")], "Q": "PassiveLeft"},
 }
 
 # A model of slow rates, by the denominator of its least one: the time goes out of range after some jumps.
@@ -109,45 +111,71 @@ def chain_of(text):
     return slow_chain(den)
 
 
-@functools.cache
-def number(seed, stream, place):
-    """Returns a number of a stream, which is made once."""
-    return draws.number(seed, stream, place)
+class Some(collections.abc.Sequence):
+    """So many numbers of a stream from a place on, each of which is made when it is looked at."""
+
+    def __init__(self, seed, stream, place, count):
+        self.seed, self.stream, self.place, self.count = seed, stream, place, count
+
+    def __len__(self):
+        return self.count
+
+    def __getitem__(self, k):
+        if k >= self.count:
+            raise IndexError(k)
+        return draws.number(self.seed, self.stream, self.place + k)
 
 
-def some(seed, stream, place, count):
-    """Returns so many numbers of a stream from a place on."""
-    return [number(seed, stream, place + k) for k in range(count)]
+def weighed(rates):
+    """Returns the rates as weights, which are whole numbers over their least common denominator, and that denominator."""
+    den = math.lcm(*(rate.denominator for rate in rates))
+    return [int(rate * den) for rate in rates], den
 
 
-def replicate(chain, seed, stream, jumps):
-    """Returns how a replication ends, how many numbers it takes, how many jumps, and its time."""
-    state = next(iter(chain))
+def chosen(weights, choice):
+    """Returns the first index whose weight, with those before it, is above the choice."""
+    return next(i for i, most in enumerate(itertools.accumulate(weights)) if most > choice)
+
+
+class Run(NamedTuple):
+    """How a replication ends or stops, how many numbers it takes, how many jumps, its time, and the lengths of its passages."""
+
+    ending: str
+    place: int
+    taken: int
+    time: int
+    lengths: list
+
+
+def replicate(chain, seed, stream, jumps, passages=1):
+    """Returns a replication. No stream comes near the limits of a draw, so that stop is left out."""
+    state, began = next(iter(chain)), None
     time = place = taken = 0
+    lengths = []
     while True:
+        if len(lengths) >= passages:
+            return Run("Done", place, taken, time, lengths)
         if taken >= jumps:
-            return "JumpLimit", place, taken, time
+            return Run("JumpLimit", place, taken, time, lengths)
         moves = chain[state]
-        if moves is None:
-            return "PassiveLeft", place, taken, time
-        if not moves:
-            return "Deadlock", place, taken, time
-        den = math.lcm(*(rate.denominator for rate, _ in moves))
-        weights = [int(rate * den) for rate, _ in moves]
-        whole = sum(weights)
-        draw, used = draws.exponential(some(seed, stream, place, 256))
+        if not moves or isinstance(moves, str):
+            return Run(moves or "Deadlock", place, taken, time, lengths)
+        weights, den = weighed([move[0] for move in moves])
+        draw, used = draws.exponential(Some(seed, stream, place, 256))
         place += used
-        if time + draw * den // whole >= LATEST:
-            return "TimeOverflow", place, taken, time
-        time += draw * den // whole
-        choice, used = draws.below(some(seed, stream, place, 64), whole)
+        if time + draw * den // sum(weights) >= LATEST:
+            return Run("TimeOverflow", place, taken, time, lengths)
+        time += draw * den // sum(weights)
+        choice, used = draws.below(Some(seed, stream, place, 64), sum(weights))
         place += used
-        index = 0
-        while choice >= weights[index]:
-            choice -= weights[index]
-            index += 1
-        state = moves[index][1]
+        _, state, *sent = moves[chosen(weights, choice)]
         taken += 1
+        signals = sent[0] if sent else ()
+        if "stop" in signals and began is not None:
+            lengths.append(time - began)
+            began = None
+        if "start" in signals and began is None:
+            began = time
 
 
 def last_denominator(seed, stream, jumps):
@@ -155,7 +183,7 @@ def last_denominator(seed, stream, jumps):
     low, high = 1, 2**41
     while low + 1 < high:
         middle = (low + high) // 2
-        if replicate(slow_chain(middle), seed, stream, jumps)[0] == "JumpLimit":
+        if replicate(slow_chain(middle), seed, stream, jumps).ending == "JumpLimit":
             low = middle
         else:
             high = middle
@@ -184,8 +212,8 @@ def runs():
 def rows():
     """Returns all rows: a run, how it ends, how many numbers it takes, and how many jumps."""
     for text, seed, number, jumps in runs():
-        ending, place, taken, _ = replicate(chain_of(text), seed, number, jumps)
-        yield [text, seed, number, jumps, ending, place, taken]
+        run = replicate(chain_of(text), seed, number, jumps)
+        yield [text, seed, number, jumps, run.ending, run.place, run.taken]
 
 
 ROW = r'\(\s*"([^"]*)",\s*(\d[\d_]*),\s*(\d[\d_]*),\s*(\d[\d_]*),\s*\w+\(\w+::(\w+)\),\s*(\d[\d_]*),\s*(\d[\d_]*),?\s*\)'
@@ -210,4 +238,5 @@ def main():
     print(f"rows as wanted: {len(found)}")
 
 
-main()
+if __name__ == "__main__":
+    main()

@@ -118,9 +118,9 @@ class Stopped(Exception):
 class Model:
     def __init__(self, text: str):
         reader = Reader(text)
-        system = reader.model()
+        self.system = reader.model()
         self.lines, self.actions = reader.lines, reader.actions
-        self.start = self.expanded(system)
+        self.start = self.expanded(self.system)
 
     def is_compound(self, part) -> bool:
         if part[0] == "const":
@@ -165,26 +165,27 @@ class Model:
         return (left[0], left[1] + right[1])
 
     def moves(self, part):
+        """The transitions in their order: action, rate, target, and signals, which no part here sends by itself."""
         if part[0] == "prefix":
-            return [(part[1], part[2], part[3])]
+            return [(part[1], part[2], part[3], frozenset())]
         if part[0] == "choice":
             return self.moves(part[1]) + self.moves(part[2])
         if part[0] == "const":
             return self.moves(self.lines[part[1]])
         if part[0] == "hide":
-            return [("tau" if a in part[2] else a, r, ("hide", next, part[2])) for a, r, next in self.moves(part[1])]
+            return [("tau" if a in part[2] else a, r, ("hide", next, part[2]), sent) for a, r, next, sent in self.moves(part[1])]
         _, left, right, types = part
         ours, theirs = self.moves(left), self.moves(right)
         rates = {a: (self.apparent(left, a), self.apparent(right, a)) for a in types}
         together = []
-        for a, r, p in ours:
-            for b, s, q in theirs:
-                if a == b and a in types:
-                    ra, rb = rates[a]
-                    least = min(ra, rb)
-                    together.append((a, (least[0], r[1] / ra[1] * (s[1] / rb[1]) * least[1]), ("coop", p, q, types)))
-        return ([(a, r, ("coop", p, right, types)) for a, r, p in ours if a not in types]
-                + [(b, s, ("coop", left, q, types)) for b, s, q in theirs if b not in types] + together)
+        for a, r, p, sent in ours:
+            ra, rb = rates.get(a, (None, None))
+            if ra and rb:
+                least = min(ra, rb)
+                part = r[1] / ra[1] / rb[1] * least[1]
+                together += [(a, (least[0], part * s[1]), ("coop", p, q, types), sent | too) for b, s, q, too in theirs if a == b]
+        return ([(a, r, ("coop", p, right, types), sent) for a, r, p, sent in ours if a not in types]
+                + [(b, s, ("coop", left, q, types), sent) for b, s, q, sent in theirs if b not in types] + together)
 
     def judged(self, part) -> None:
         for action in self.actions:
@@ -196,20 +197,24 @@ class Model:
         moves = self.moves(part)
         if len(moves) > MOST:
             raise Stopped("list too long")
-        if any(out_of_range(rate) for _, rate, _ in moves):
+        if any(out_of_range(rate) for _, rate, *_ in moves):
             raise Stopped("overflow")
 
-    def steps(self) -> str:
-        for part in self.parts(self.start):
+    def listed(self, state) -> list:
+        """The transitions of a state, or the stop that its verdict names."""
+        for part in self.parts(state):
             self.judged(part)
-        moves = self.moves(self.start)
-        if any(rate[0] == "passive" for _, rate, _ in moves):
+        moves = self.moves(state)
+        if any(rate[0] == "passive" for _, rate, *_ in moves):
             raise Stopped("passive left")
-        rates = [rate[1] for _, rate, _ in moves]
+        rates = [rate[1] for _, rate, *_ in moves]
         common = math.lcm(*(rate.denominator for rate in rates))
         if max(common, sum(rates) * common) >= 2**62:
             raise Stopped("weight overflow")
-        return "".join(f"{a} {rate_text(r)} {self.text(next)}\n" for a, r, next in moves)
+        return moves
+
+    def steps(self) -> str:
+        return "".join(f"{a} {rate_text(r)} {self.text(next)}\n" for a, r, next, _ in self.listed(self.start))
 
     def words(self, types) -> str:
         return ",".join(a for a in self.actions if a in types)

@@ -7,7 +7,7 @@ cd "$(dirname -- "$0")/.." || exit 1
 status=0
 scripts=(bin/pepaprobe .ci/run tests/*.sh tests/common.bash tests/more-edits/run)
 benches=(bench/*-scale bench/*-speed bench/proof-cost)
-pythons=("${benches[@]}" tests/fuzz.py tests/rules.py tests/faults.py tests/fault_texts.py tests/draws.py tests/probes.py tests/replications.py tests/probe_texts.py tests/summaries.py tests/words.py tests/docs.py tests/definitions.py)
+pythons=("${benches[@]}" tests/fuzz.py tests/rules.py tests/runs.py tests/run_calls.py tests/watches.py tests/faults.py tests/fault_texts.py tests/draws.py tests/probes.py tests/replications.py tests/outcomes.py tests/probe_texts.py tests/summaries.py tests/words.py tests/docs.py tests/definitions.py)
 for script in "${scripts[@]}"; do
     bash -n "$script" || status=1
 done

@@ -4,8 +4,10 @@
 #![tactic(auto)]
 
 #[cfg(test)]
+mod calls;
+#[cfg(test)]
+mod commands;
+#[cfg(test)]
 mod fault_lines;
 #[cfg(test)]
 mod top_call;
-#[cfg(test)]
-mod words;

@@ -1,42 +1,8 @@
 //! The whole call over devices in memory.
 
-use sim_command::pepaprobe;
-use sim_outside::{MemSink, MemSource};
+use crate::calls::{Devices, SOUND, call};
 use std::alloc::{AllocError, Global};
 use std::test::Fail;
-
-/// The devices of a call: the numbers of the reads and writes that fail, from 1, and the room of the output.
-#[derive(Clone, Copy)]
-struct Devices<'a> {
-    failing_reads: &'a [u64],
-    room: usize,
-    failing_writes: &'a [u64],
-    failing_lines: &'a [u64],
-}
-
-const SOUND: Devices = Devices {
-    failing_reads: &[],
-    room: 1000,
-    failing_writes: &[],
-    failing_lines: &[],
-};
-
-fn call(
-    alloc: Global,
-    words: &[&str],
-    input: &[u8],
-    devices: &Devices,
-) -> Result<(u8, MemSink, MemSink), AllocError> {
-    let mut owned = Vec::new(alloc);
-    for word in words {
-        owned.push(String::from_str(alloc, word)?)?;
-    }
-    let mut source = MemSource::make(alloc, input, 9, devices.failing_reads)?;
-    let mut out = MemSink::make(alloc, devices.room, 10, devices.failing_writes)?;
-    let mut err = MemSink::make(alloc, 100, 10, devices.failing_lines)?;
-    let status = pepaprobe(alloc, owned.as_slice(), &mut source, &mut out, &mut err);
-    Ok((status, out, err))
-}
 
 // An input with the status, the output and the line that are wanted.
 type Row<'a> = (&'a str, u8, &'a str, &'a str);
@@ -370,18 +336,6 @@ fn texts_without_a_model(rt: HostRuntime) -> Result<(), Fail> {
                 "{input}"
             );
         }
-    }
-    Ok(())
-}
-
-#[test]
-fn words_that_give_no_command(rt: HostRuntime) -> Result<(), Fail> {
-    let unknown = ["step"];
-    let more = ["steps", "steps"];
-    for words in [&[], unknown.as_slice(), more.as_slice()] {
-        let (status, out, err) = call(rt.alloc(), words, b"P", &SOUND)?;
-        assert_eq!(rt; (status, out.calls()), (2, 0));
-        assert_eq!(rt; err.written(), b"usage\n".as_slice());
     }
     Ok(())
 }

@@ -1,5 +1,5 @@
 -- Answers.
-use Rattle.std.proofs.Common.{◌≡◌, ℕ, List, [], ◌∷◌, Result, Ok, Err, IfOk, refl, ap, ◌∙◌, inl, inr, subst}
+use Rattle.std.proofs.Common.{◌≡◌, ℕ, Option, None, List, [], ◌∷◌, Result, Ok, Err, IfOk, refl, ap, ◌∙◌, inl, inr, subst}
 use Rattle.std.specs.List.{AllZip}
 use Rattle.pepa_model.specs.PepaModel.{PepaModel}
 use Rattle.pepa_model.specs.declared.term.Step.{Step}
@@ -11,7 +11,12 @@ use Rattle.pepa_steps.specs.WholeVerdict.{HasPassive, AreWeighed, rates_of, OfPa
 use Rattle.pepa_steps.specs.declared.transitions.StepsEnd.TheVariants.{Fault}
 use Rattle.pepa_steps.specs.declared.transitions.StepFault.{StepFault}
 use Rattle.sim_command.specs.declared.answered.Answered.{Answered}
-use Rattle.sim_command.specs.declared.words.Command.{Command}
+use Rattle.sim_replication.specs.declared.order.Order.{Order}
+use Rattle.sim_replication.specs.declared.ran.Ran.{Ran}
+use Rattle.sim_replication.specs.declared.ran.Outcome.TheVariants.{Finished}
+use Rattle.sim_workers.specs.AllRuns.{AllRuns}
+use Rattle.call_words.specs.declared.command.Command.{Command}
+use Rattle.call_words.specs.declared.command.Command.TheVariants.{Run}
 use Rattle.sim_report.specs.declared.fault.Fault.TheVariants as faults
 use Rattle.sim_space.specs.declared.stop.Stop.{Stop}
 use Rattle.sim_space.specs.declared.stop.Stop.TheVariants as stops
@@ -21,9 +26,11 @@ use Rattle.sim_space.specs.declared.choices.ChoiceEnd.TheVariants as ends
 use Rattle.sim_command.specs.FirstSteps.{step_rates, AreStepsOf}
 use Rattle.sim_report.specs.TransitionsText.{transitions_text}
 use Rattle.probe_attach.specs.FirstStates.{IsFirstState}
-use Rattle.sim_command.specs.ModelAnswers.{IsRefusalAnswer, IsStepsAnswer, IsModelAnswer}
+use Rattle.sim_command.specs.ModelAnswers.{IsStepsAnswer, IsModelAnswer}
+use Rattle.sim_command.specs.AnswerForms.{IsRefusalAnswer}
+use Rattle.sim_command.specs.RunAnswers.{IsReportOf, IsRunAnswer}
 use Rattle.sim_space.specs.Stops.{stop_of}
-use Rattle.sim_command.specs.Answer.{IsAnswer}
+use Rattle.sim_command.specs.Answer.{IsTextAnswer}
 
 -- steps have the rates of the transitions that they stand for
 same_rates : (m : PepaModel) (list : List Step) (ts : List StateTransition) → AllZip (StepStandsFor m) list ts → step_rates list ≡ rates_of ts
@@ -78,7 +85,18 @@ steps_stop m state list stops.WeightOverflow answered first (fine, (transitions,
     })
 steps_stop m state list stop answered first h other refused = absurd other
 
--- the answer for the input's model answers the input
-pub input_is_answered : {E : Type 0} (command : Command) (input : List ℕ) (m : PepaModel) (result : Result Answered E) → IsShortTextOf input m → IfOk result (IsModelAnswer command m) → IfOk result (IsAnswer command input)
-input_is_answered command input m (Ok a) reads is = inr (record { model = m; reads = reads; answer = is })
-input_is_answered command input m (Err e) reads is = tt
+-- the answer for a text's model answers the text
+pub text_is_answered : {E : Type 0} (command : Command) (text : List ℕ) (m : PepaModel) (result : Result Answered E) → IsShortTextOf text m → IfOk result (IsModelAnswer command m) → IfOk result (IsTextAnswer command text)
+text_is_answered command text m (Ok a) reads is = inr (record { model = m; reads = reads; answer = is })
+text_is_answered command text m (Err e) reads is = tt
+
+-- `run` answers a text in one way, whether it was made or not
+pub run_of_text : {E : Type 0} (order : Order) (made : Option ℕ) (text : List ℕ) (result : Result Answered E) → IfOk result (IsTextAnswer (Run order None) text) → IfOk result (IsTextAnswer (Run order made) text)
+run_of_text order made text (Ok a) (inl unread) = inl unread
+run_of_text order made text (Ok a) (inr read) = inr (record { model = read.model; reads = read.reads; answer = read.answer })
+run_of_text order made text (Err e) h = tt
+
+-- the report of all replications is the answer of `run`
+pub run_is_reported : {E : Type 0} (m : PepaModel) (order : Order) (rans : List Ran) (result : Result Answered E) → AllRuns m order (Finished rans) → IfOk result (IsReportOf order rans) → IfOk result (IsRunAnswer m order)
+run_is_reported m order rans (Ok a) outcome report = inr (record { rans = rans; outcome = outcome; report = report })
+run_is_reported m order rans (Err e) outcome report = tt

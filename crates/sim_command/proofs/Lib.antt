@@ -1,14 +1,15 @@
-pub mod WordLists
 pub mod Printable
 pub mod ModelReading
 pub mod OneOutcome
 pub mod Answers
+pub mod GivenCommands
+pub mod MadeTexts
 pub mod Endings
 pub mod Statuses
 pub mod DeviceCalls
 pub mod SoundEndings
-pub mod WordsOutcome
 pub mod OneAnswer
 pub mod PrintedAgain
+pub mod SomeSummary
 pub mod SomeAnswer
 pub mod SomeOutcome

@@ -1,5 +1,5 @@
 -- A command has one answer to an input.
-use Rattle.std.proofs.Common.{◌≡◌, ℕ, List, inl, inr, refl, sym, ap, subst, ◌∙◌, length, ◌-◌}
+use Rattle.std.proofs.Common.{◌≡◌, ℕ, Some, List, [], inl, inr, refl, sym, ap, subst, ◌∙◌, length, ◌-◌}
 use Rattle.pepa_lexer.specs.declared.kinds.Place.{Place}
 use Rattle.pepa_model.specs.Expanded.{leaves_in}
 use Rattle.pepa_model.specs.PepaModel.{PepaModel}
@@ -14,17 +14,28 @@ use Rattle.pepa_steps.proofs.OneVerdict.{one_verdict, verdict_or_none}
 use Rattle.probe_attach.specs.FirstStates.{IsFirstState, expanded_state}
 use Rattle.pepa_checks.proofs.OneTree.{one_expansion}
 use Rattle.sim_command.specs.declared.answered.Answered.{Answered}
-use Rattle.sim_command.specs.declared.words.Command.{Command}
-use Rattle.sim_command.specs.declared.words.Command.TheVariants.{Steps, Check, Print}
+use Rattle.call_words.specs.declared.command.Command.{Command}
+use Rattle.call_words.specs.declared.command.Command.TheVariants.{Steps, Check, Print, Probe, Run, Gen}
 use Rattle.sim_report.specs.declared.fault.FaultName.{FaultName}
 use Rattle.sim_report.specs.declared.fault.Fault.{Fault}
 use Rattle.sim_report.specs.declared.fault.Fault.TheVariants as faults
+use Rattle.sim_replication.specs.declared.order.Order.{Order}
+use Rattle.sim_replication.specs.declared.ran.Ran.{Ran}
+use Rattle.sim_replication.specs.declared.ran.Outcome.{Outcome}
+use Rattle.sim_replication.specs.declared.ran.Outcome.TheVariants.{Finished, Stopped}
+use Rattle.sim_workers.proofs.OneOutcome.{one_outcome}
+use Rattle.sim_histograms.specs.Summaries.{IsSummary}
+use Rattle.sim_histograms.specs.declared.summaries.Summary.{Summary}
+use Rattle.sim_histograms.proofs.SummaryFacts.{same_summary}
+use Rattle.sim_report.specs.Report.{report_text_of}
 use Rattle.sim_report.specs.TransitionsText.{transitions_text}
 use Rattle.probe_attach.specs.Systems.{HasLeaves}
 use Rattle.sim_report.specs.CheckText.{counts_text, IsCheckText}
-use Rattle.sim_command.specs.ModelAnswers.{IsRefusalAnswer, IsStopped, IsListed, IsStepsAnswer, IsModelAnswer}
+use Rattle.sim_command.specs.AnswerForms.{IsRefusalAnswer, IsFineAnswer}
+use Rattle.sim_command.specs.RunAnswers.{IsRunAnswer}
+use Rattle.sim_command.specs.ModelAnswers.{IsStopped, IsListed, IsStepsAnswer, IsModelAnswer}
 use Rattle.sim_space.specs.Stops.{stop_of_verdict}
-use Rattle.sim_command.specs.Answer.{IsUnread, IsAnswer}
+use Rattle.sim_command.specs.Answer.{IsUnread, IsTextAnswer, IsAnswer}
 use Rattle.sim_command.proofs.OneOutcome.{one_model_fault, model_or_fault}
 
 abbrev answer : ℕ → List ℕ → List ℕ → Answered
@@ -36,6 +47,9 @@ same_parts x y status out line =
 
 same_refusal : (x y : Answered) (status : ℕ) (fault : Fault) → IsRefusalAnswer x status fault → IsRefusalAnswer y status fault → x ≡ y
 same_refusal x y status fault h k = same_parts x y (h.status_is ∙ sym k.status_is) (h.out_is ∙ sym k.out_is) (h.line_is ∙ sym k.line_is)
+
+same_fine : (x y : Answered) (text : List ℕ) → IsFineAnswer x text → IsFineAnswer y text → x ≡ y
+same_fine x y text h k = same_parts x y (h.status_is ∙ sym k.status_is) (h.out_is ∙ sym k.out_is) (h.line_is ∙ sym k.line_is)
 
 -- a model has one first state
 one_first : (m : PepaModel) (p q : State) → IsFirstState m p → IsFirstState m q → p ≡ q
@@ -94,11 +108,39 @@ one_count m i j h k = h.count_is ∙ ap leaves_in (one_expansion m.bodies m.syst
 one_check_text : (m : PepaModel) (x y : List ℕ) → IsCheckText m x → IsCheckText m y → x ≡ y
 one_check_text m x y h k = h.text_is ∙ ap (counts_text (length m.constants) (length m.actions - 1)) (one_count m h.leaves k.leaves h.has_leaves k.has_leaves) ∙ sym k.text_is
 
+-- what an outcome is of: its replications, and the fault of the one that stops
+abbrev rans_of : Outcome → List Ran
+rans_of (Finished rans) = rans
+rans_of (Stopped number stop) = []
+
+abbrev stop_fault : Outcome → Fault
+stop_fault (Finished rans) = faults.Memory
+stop_fault (Stopped number stop) = faults.RunStopped number stop
+
+one_run_answer : (m : PepaModel) (order : Order) (x y : Answered) → IsRunAnswer m order x → IsRunAnswer m order y → x ≡ y
+one_run_answer m order x y (inl h) (inl k) =
+    let same = ap stop_fault (one_outcome m order (Stopped h.number h.stop) (Stopped k.number k.stop) h.outcome k.outcome) in
+    same_refusal x y 6 (faults.RunStopped k.number k.stop) (subst (λ (f : Fault). IsRefusalAnswer x 6 f) same h.refused) k.refused
+one_run_answer m order x y (inl h) (inr k) =
+    let e = one_outcome m order (Stopped h.number h.stop) (Finished k.rans) h.outcome k.outcome in
+    absurd cc
+one_run_answer m order x y (inr h) (inl k) =
+    let e = one_outcome m order (Finished h.rans) (Stopped k.number k.stop) h.outcome k.outcome in
+    absurd cc
+one_run_answer m order x y (inr h) (inr k) =
+    let same : h.rans ≡ k.rans = ap rans_of (one_outcome m order (Finished h.rans) (Finished k.rans) h.outcome k.outcome) in
+    let sums : IsSummary order k.rans h.report.summary = subst (λ (rans : List Ran). IsSummary order rans h.report.summary) same h.report.sums_up in
+    let summary = same_summary order k.rans h.report.summary k.report.summary sums k.report.sums_up in
+    same_fine x y (report_text_of k.report.summary) (subst (λ (s : Summary). IsFineAnswer x (report_text_of s)) summary h.report.fine) k.report.fine
+
 pub one_model_answer : (command : Command) (m : PepaModel) (x y : Answered) → IsModelAnswer command m x → IsModelAnswer command m y → x ≡ y
 one_model_answer Steps m x y h k = one_steps_answer m x y h k
 one_model_answer Check m x y h k =
     same_parts x y (h.status_is ∙ sym k.status_is) (one_check_text m x.out y.out h.out_is k.out_is) (h.line_is ∙ sym k.line_is)
 one_model_answer Print m x y h k = same_parts x y (h.status_is ∙ sym k.status_is) (h.out_is ∙ sym k.out_is) (h.line_is ∙ sym k.line_is)
+one_model_answer (Probe ask) m x y h k = same_fine x y _ h k
+one_model_answer (Run order made) m x y h k = one_run_answer m order x y h k
+one_model_answer (Gen size) m x y h k = same_fine x y _ h k
 
 both_unread : (input : List ℕ) (x y : Answered) → IsUnread input x → IsUnread input y → x ≡ y
 both_unread input x y h k =
@@ -106,10 +148,15 @@ both_unread input x y h k =
     let moved : IsRefusalAnswer x 3 (faults.Model k.place h.name) = subst (λ (p : Place). IsRefusalAnswer x 3 (faults.Model p h.name)) place h.refused in
     same_refusal x y 3 (faults.Model k.place k.name) (subst (λ (n : FaultName). IsRefusalAnswer x 3 (faults.Model k.place n)) name moved) k.refused
 
-pub one_answer : (command : Command) (input : List ℕ) (x y : Answered) → IsAnswer command input x → IsAnswer command input y → x ≡ y
-one_answer command input x y (inl h) (inl k) = both_unread input x y h k
-one_answer command input x y (inl h) (inr k) = absurd (model_or_fault input k.model h.place h.name k.reads h.is_fault)
-one_answer command input x y (inr h) (inl k) = absurd (model_or_fault input h.model k.place k.name h.reads k.is_fault)
-one_answer command input x y (inr h) (inr k) =
+pub one_text_answer : (command : Command) (input : List ℕ) (x y : Answered) → IsTextAnswer command input x → IsTextAnswer command input y → x ≡ y
+one_text_answer command input x y (inl h) (inl k) = both_unread input x y h k
+one_text_answer command input x y (inl h) (inr k) = absurd (model_or_fault input k.model h.place h.name k.reads h.is_fault)
+one_text_answer command input x y (inr h) (inl k) = absurd (model_or_fault input h.model k.place k.name h.reads k.is_fault)
+one_text_answer command input x y (inr h) (inr k) =
     let same = one_model input h.model k.model h.reads k.reads in
     one_model_answer command k.model x y (subst (λ (m : PepaModel). IsModelAnswer command m x) same h.answer) k.answer
+
+pub one_answer : (command : Command) (input : List ℕ) (x y : Answered) → IsAnswer command input x → IsAnswer command input y → x ≡ y
+one_answer (Run order (Some size)) input x y h k = one_text_answer (Run order (Some size)) _ x y h k
+one_answer (Gen size) input x y h k = same_fine x y _ h k
+one_answer command input x y h k = one_text_answer command input x y h k

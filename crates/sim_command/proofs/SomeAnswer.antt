@@ -13,16 +13,26 @@ use Rattle.pepa_checks.proofs.SomeTrees.{no_box}
 use Rattle.pepa_printer.specs.ModelText.{model_text}
 use Rattle.pepa_printer.proofs.ReadsBack.{reads_back}
 use Rattle.probe_attach.specs.FirstStates.{expanded_state, IsFirstState}
+use Rattle.model_maker.specs.MadeModel.{made_text}
+use Rattle.sim_replication.specs.declared.order.Order.{Order}
+use Rattle.sim_replication.specs.declared.ran.Outcome.{Outcome}
+use Rattle.sim_replication.specs.declared.ran.Outcome.TheVariants.{Finished, Stopped}
+use Rattle.sim_workers.specs.AllRuns.{AllRuns}
+use Rattle.sim_workers.proofs.SomeOutcome.{some_outcome}
 use Rattle.sim_report.specs.declared.fault.Fault.TheVariants as faults
+use Rattle.sim_report.specs.ProbeText.{probe_text_of}
+use Rattle.sim_report.specs.Report.{report_text_of}
 use Rattle.sim_report.specs.CheckText.{counts_text}
 use Rattle.sim_report.specs.FaultLine.{fault_text}
 use Rattle.sim_report.specs.TransitionsText.{transitions_text}
 use Rattle.sim_space.specs.Stops.{stop_of_verdict}
 use Rattle.sim_command.specs.declared.answered.Answered.{Answered}
-use Rattle.sim_command.specs.declared.words.Command.{Command}
-use Rattle.sim_command.specs.declared.words.Command.TheVariants.{Steps, Check, Print}
+use Rattle.call_words.specs.declared.command.Command.{Command}
+use Rattle.call_words.specs.declared.command.Command.TheVariants.{Steps, Check, Print, Probe, Run, Gen}
+use Rattle.sim_command.specs.RunAnswers.{IsRunAnswer}
 use Rattle.sim_command.specs.ModelAnswers.{IsStepsAnswer}
 use Rattle.sim_command.specs.OutcomeLaws.{HasModelAnswer}
+use Rattle.sim_command.proofs.SomeSummary.{some_summary}
 
 -- ---- a term for the first state
 
@@ -81,6 +91,17 @@ module _ (m : PepaModel) (sound : IsModel m) where
     inr (record { state = first_state; first = is_first; fine = fine; transitions = transitions; derived = derived; active = active; weighed = weighed; status_is = refl; out_is = refl; line_is = refl }),
   )
 
+  run_answer : (order : Order) (outcome : Outcome) → AllRuns m order outcome → (answered : Answered) × IsRunAnswer m order answered
+  run_answer order (Stopped number stop) h = (
+    record { status = 6; out = []; line = fault_text (faults.RunStopped number stop) },
+    inl (record { number = number; stop = stop; outcome = h; refused = record { status_is = refl; out_is = refl; line_is = refl } }),
+  )
+  run_answer order (Finished rans) h =
+      let summary = some_summary order rans in (
+        record { status = 0; out = report_text_of summary.0; line = [] },
+        inr (record { rans = rans; outcome = h; report = record { summary = summary.0; sums_up = summary.1; fine = record { status_is = refl; out_is = refl; line_is = refl } } }),
+      )
+
   model_answer : (command : Command) → HasModelAnswer command m
   model_answer Steps = steps_answer stop_or_choice
   model_answer Check =
@@ -91,6 +112,15 @@ module _ (m : PepaModel) (sound : IsModel m) where
   model_answer Print = (
     record { status = 0; out = model_text m; line = [] },
     record { status_is = refl; out_is = refl; reads_back = reads_back m sound; line_is = refl },
+  )
+  model_answer (Probe ask) = (
+    record { status = 0; out = probe_text_of ask; line = [] },
+    record { status_is = refl; out_is = refl; line_is = refl },
+  )
+  model_answer (Run order made) = let outcome = some_outcome m sound order in run_answer order outcome.0 outcome.1
+  model_answer (Gen size) = (
+    record { status = 0; out = made_text size; line = [] },
+    record { status_is = refl; out_is = refl; line_is = refl },
   )
 
 pub some_model_answer : (command : Command) (m : PepaModel) → IsModel m → HasModelAnswer command m

@@ -1,5 +1,5 @@
 -- An input of at most 2^20 bytes has a model or a first fault, and an answer to each command.
-use Rattle.std.proofs.Common.{ℕ, List, [], get_or, inl, inr, refl}
+use Rattle.std.proofs.Common.{ℕ, ◌^◌, ◌≤◌, Some, List, [], length, get_or, inl, inr, refl}
 use Rattle.std.proofs.lemmas.Option.{slice_get-get_or}
 use Rattle.pepa_lexer.specs.declared.kinds.Place.{Place}
 use Rattle.pepa_lexer.specs.declared.kinds.Kind.TheVariants.{End}
@@ -24,9 +24,14 @@ use Rattle.sim_report.specs.declared.fault.Fault.TheVariants.{Model}
 use Rattle.sim_report.specs.declared.fault.FaultName.{FaultName}
 use Rattle.sim_report.specs.declared.fault.FaultName.TheVariants as names
 use Rattle.sim_report.specs.FaultLine.{fault_text}
-use Rattle.sim_command.specs.declared.words.Command.{Command}
+use Rattle.model_maker.specs.MadeModel.{made_text}
+use Rattle.call_words.specs.declared.command.Command.{Command}
+use Rattle.call_words.specs.declared.command.Command.TheVariants.{Run, Gen}
 use Rattle.sim_command.specs.ModelFaults.{cause_name, IsModelFault}
+use Rattle.sim_command.specs.declared.answered.Answered.{Answered}
+use Rattle.sim_command.specs.Answer.{IsTextAnswer}
 use Rattle.sim_command.specs.OutcomeLaws.{HasSomeOutcome, HasAnswerIfRead, HasSomeAnswer}
+use Rattle.sim_command.proofs.MadeTexts.{made_text_is_short}
 use Rattle.sim_command.proofs.ModelReading.{has_model}
 use Rattle.sim_command.proofs.SomeAnswer.{some_model_answer}
 
@@ -84,8 +89,16 @@ answer_if_read command input m reads =
     let answer = some_model_answer command m (text_keeps input m reads) in
     (answer.0, inr (record { model = m; reads = reads; answer = answer.1 }))
 
-pub some_answer : (command : Command) (input : List ℕ) → HasSomeAnswer command input
-some_answer command input short apart =
-    some_outcome input short
-    (λ m reads. let answer = answer_if_read command input m reads in apart answer.0 answer.1)
+-- a text of at most 2^20 bytes can't have no answer
+some_text_answer : (command : Command) (text : List ℕ) → length text ≤ 2 ^ 20 → ((answered : Answered) → ¬ IsTextAnswer command text answered) → ⊥
+some_text_answer command text short apart =
+    some_outcome text short
+    (λ m reads. let answer = answer_if_read command text m reads in apart answer.0 answer.1)
     (λ place name is_fault. apart (record { status = 3; out = []; line = fault_text (Model place name) }) (inl (record { place = place; name = name; is_fault = is_fault; refused = record { status_is = refl; out_is = refl; line_is = refl } })))
+
+pub some_answer : (command : Command) (input : List ℕ) → HasSomeAnswer command input
+some_answer (Run order (Some size)) input range short apart =
+    some_text_answer (Run order (Some size)) (made_text size) (made_text_is_short size range.1) apart
+some_answer (Gen size) input range short apart =
+    apart (record { status = 0; out = made_text size; line = [] }) (record { status_is = refl; out_is = refl; line_is = refl })
+some_answer command input range short apart = some_text_answer command input (short refl) apart

@@ -5,12 +5,14 @@ use Rattle.sim_outside.specs.declared.reading.ReadEnd.{ReadEnd}
 use Rattle.sim_outside.specs.declared.reading.ReadEnd.TheVariants.{ReadFault}
 use Rattle.sim_outside.specs.Readings.{ReadsOnly}
 use Rattle.sim_outside.specs.Writes.{OffersAll}
+use Rattle.sim_command.specs.Inputs.{NeedSource}
 
--- the source isn't called, or it is read once, up to 2^20 bytes and to the first read that fails; status 4 is such a failure
-abbrev pub IsReadOnce : {S : Type 0} → (S → ℕ → Result (List ℕ) Failed → S → Type 0) → S → ℕ → S → Type 0
-IsReadOnce Read from status to =
+-- the source isn't called; or the words give a command that works on its bytes, and it is read once, up to 2^20 bytes and to the
+-- first read that fails. Status 4 is such a failure
+abbrev pub IsReadOnce : {S : Type 0} → (S → ℕ → Result (List ℕ) Failed → S → Type 0) → List (List ℕ) → S → ℕ → S → Type 0
+IsReadOnce Read words from status to =
     ((to ≡ from) × ¬ (status ≡ 4))
-    ⊎ ((end : Result (List ℕ) ReadEnd) × ReadsOnly Read from (2 ^ 20) end to × (status ≡ 4 → end ≡ Err ReadFault))
+    ⊎ (NeedSource words × ((end : Result (List ℕ) ReadEnd) × ReadsOnly Read from (2 ^ 20) end to × (status ≡ 4 → end ≡ Err ReadFault)))
 
 -- one piece is written to the output, to the first write that fails, or the output isn't called, as for an empty piece; status 5 is
 -- such a failure

@@ -1,5 +1,7 @@
-pub mod Words
+pub mod Inputs
 pub mod ModelFaults
+pub mod AnswerForms
+pub mod RunAnswers
 pub mod ModelAnswers
 pub mod Answer
 pub mod TopCall

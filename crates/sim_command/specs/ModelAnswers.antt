@@ -5,24 +5,19 @@ use Rattle.pepa_steps.specs.States.{State, StateTransition}
 use Rattle.pepa_steps.specs.Rules.{IsTransitionList}
 use Rattle.pepa_steps.specs.StateVerdict.{IsWithoutFault}
 use Rattle.pepa_steps.specs.WholeVerdict.{HasPassive, AreWeighed, rates_of, StateStop, IsWholeVerdict}
-use Rattle.sim_report.specs.declared.fault.Fault.{Fault}
 use Rattle.sim_report.specs.declared.fault.Fault.TheVariants as faults
 use Rattle.sim_command.specs.declared.answered.Answered.{Answered}
-use Rattle.sim_command.specs.declared.words.Command.{Command}
-use Rattle.sim_command.specs.declared.words.Command.TheVariants.{Steps, Check, Print}
-use Rattle.sim_report.specs.FaultLine.{fault_text}
+use Rattle.call_words.specs.declared.command.Command.{Command}
+use Rattle.call_words.specs.declared.command.Command.TheVariants.{Steps, Check, Print, Probe, Run, Gen}
 use Rattle.sim_report.specs.TransitionsText.{transitions_text}
 use Rattle.probe_attach.specs.FirstStates.{IsFirstState}
 use Rattle.pepa_printer.specs.ModelText.{model_text}
 use Rattle.pepa_checks.specs.CheckedFiles.{IsTextOf}
 use Rattle.sim_report.specs.CheckText.{IsCheckText}
 use Rattle.sim_space.specs.Stops.{stop_of_verdict}
-
--- a status other than 0, with nothing for the output and the fault's line
-pub record IsRefusalAnswer (answered : Answered) (status : ℕ) (fault : Fault) : Type 0 where
-  pub status_is : answered.status ≡ status
-  pub out_is : answered.out ≡ []
-  pub line_is : answered.line ≡ fault_text fault
+use Rattle.sim_report.specs.ProbeText.{probe_text_of}
+use Rattle.sim_command.specs.AnswerForms.{IsRefusalAnswer, IsFineAnswer}
+use Rattle.sim_command.specs.RunAnswers.{IsRunAnswer, IsGenAnswer}
 
 -- ---- steps
 
@@ -70,8 +65,12 @@ pub record IsPrintAnswer (m : PepaModel) (answered : Answered) : Type 0 where
 
 -- ---- all commands
 
--- the answer of a command for a model
+-- the answer of a command for a model: that of `probe` is the same for each model, since none has probes yet, and that of `gen` speaks
+-- of none
 abbrev pub IsModelAnswer : Command → PepaModel → Answered → Type 0
 IsModelAnswer Steps m answered = IsStepsAnswer m answered
 IsModelAnswer Check m answered = IsCheckAnswer m answered
 IsModelAnswer Print m answered = IsPrintAnswer m answered
+IsModelAnswer (Probe ask) m answered = IsFineAnswer answered (probe_text_of ask)
+IsModelAnswer (Run order made) m answered = IsRunAnswer m order answered
+IsModelAnswer (Gen size) m answered = IsGenAnswer size answered

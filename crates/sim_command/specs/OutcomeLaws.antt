@@ -1,15 +1,16 @@
 -- That there is an outcome, and an answer. Where a definition ends in ⊥ it is a double negation: whoever shows that there is none has a
 -- contradiction.
-use Rattle.std.specs.Prelude.{ℕ, ◌^◌, ◌≤◌, List, length}
+use Rattle.std.specs.Prelude.{◌≡◌, ℕ, true, ◌^◌, ◌≤◌, List, length}
 use Rattle.pepa_lexer.specs.declared.kinds.Place.{Place}
 use Rattle.pepa_model.specs.PepaModel.{PepaModel}
 use Rattle.pepa_checks.specs.CheckedFiles.{IsShortTextOf}
 use Rattle.sim_report.specs.declared.fault.FaultName.{FaultName}
 use Rattle.sim_command.specs.declared.answered.Answered.{Answered}
-use Rattle.sim_command.specs.declared.words.Command.{Command}
+use Rattle.call_words.specs.declared.command.Command.{Command}
 use Rattle.sim_command.specs.ModelFaults.{IsModelFault}
 use Rattle.sim_command.specs.ModelAnswers.{IsModelAnswer}
-use Rattle.sim_command.specs.Answer.{IsAnswer}
+use Rattle.sim_command.specs.Inputs.{reads_source, IsCommandInRange}
+use Rattle.sim_command.specs.Answer.{IsTextAnswer, IsAnswer}
 
 -- an input of at most 2^20 bytes has a model or a first fault: it can't have neither
 abbrev pub HasSomeOutcome : List ℕ → Type 0
@@ -21,11 +22,14 @@ HasSomeOutcome input =
 abbrev pub HasModelAnswer : Command → PepaModel → Type 0
 HasModelAnswer command m = (answered : Answered) × IsModelAnswer command m answered
 
--- where the input has a model, the command has an answer to it
+-- where a text has a model, the command has an answer to it
 abbrev pub HasAnswerIfRead : Command → List ℕ → Type 0
-HasAnswerIfRead command input =
-    (m : PepaModel) → IsShortTextOf input m → (answered : Answered) × IsAnswer command input answered
+HasAnswerIfRead command text =
+    (m : PepaModel) → IsShortTextOf text m → (answered : Answered) × IsTextAnswer command text answered
 
--- an input of at most 2^20 bytes can't have no answer to the command
+-- a command with its numbers in their ranges can't have no answer where the source has these bytes, at most 2^20 if the command works
+-- on them
 abbrev pub HasSomeAnswer : Command → List ℕ → Type 0
-HasSomeAnswer command input = length input ≤ 2 ^ 20 → ((answered : Answered) → ¬ IsAnswer command input answered) → ⊥
+HasSomeAnswer command input =
+    IsCommandInRange command → (reads_source command ≡ true → length input ≤ 2 ^ 20)
+    → ((answered : Answered) → ¬ IsAnswer command input answered) → ⊥

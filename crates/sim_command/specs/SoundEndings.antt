@@ -1,11 +1,12 @@
 -- How a call ends over devices that tell their bytes and don't fail.
-use Rattle.std.specs.Prelude.{◌≡◌, ℕ, ◌<◌, ◌≤◌, ◌^◌, Some, List, ◌++◌, length, ◌⊎◌}
+use Rattle.std.specs.Prelude.{◌≡◌, ℕ, true, ◌<◌, ◌≤◌, ◌^◌, Some, List, ◌++◌, length, ◌⊎◌}
 use Rattle.sim_outside.specs.Faults.{Rose}
 use Rattle.sim_report.specs.declared.fault.Fault.TheVariants as faults
 use Rattle.sim_command.specs.declared.answered.Answered.{Answered}
-use Rattle.sim_command.specs.declared.words.Command.{Command}
-use Rattle.sim_command.specs.Words.{IsCommand}
+use Rattle.call_words.specs.declared.command.Command.{Command}
+use Rattle.call_words.specs.CommandWords.{GivesCommand}
 use Rattle.sim_report.specs.FaultLine.{fault_text}
+use Rattle.sim_command.specs.Inputs.{reads_source, NeedSource}
 use Rattle.sim_command.specs.Answer.{IsAnswer}
 use Rattle.sim_command.specs.TopCall.{Seen}
 
@@ -16,13 +17,14 @@ pub record IsSound (device : Seen) (bytes : List ℕ) : Type 0 where
 
 -- status 2: the words give no command, and nothing is written
 pub record IsUsageOver (words : List (List ℕ)) (written : List ℕ) (out : Seen) (line : List ℕ) (status : ℕ) : Type 0 where
-  pub no_command : (command : Command) → ¬ IsCommand words command
+  pub no_command : (command : Command) → ¬ GivesCommand words command
   pub status_is : status ≡ 2
   pub out_is : out.bytes_after ≡ Some written
   pub line_is : line ≡ fault_text faults.Usage
 
--- status 3: the input has more than 2^20 bytes, and nothing is written
-pub record IsTooLongOver (input written : List ℕ) (out : Seen) (line : List ℕ) (status : ℕ) : Type 0 where
+-- status 3: the words give a command that works on the bytes of the source, which are more than 2^20, and nothing is written
+pub record IsTooLongOver (words : List (List ℕ)) (input written : List ℕ) (out : Seen) (line : List ℕ) (status : ℕ) : Type 0 where
+  pub needed : NeedSource words
   pub long : 2 ^ 20 < length input
   pub status_is : status ≡ 3
   pub out_is : out.bytes_after ≡ Some written
@@ -34,11 +36,11 @@ pub record IsMemoryOver (written : List ℕ) (out : Seen) (line : List ℕ) (sta
   pub out_is : out.bytes_after ≡ Some written
   pub line_is : line ≡ fault_text faults.Memory
 
--- exactly the answer of the command to the input is written
+-- exactly the answer of the command is written, where the source has these bytes: at most 2^20 if the command works on them
 pub record IsAnswerOver (words : List (List ℕ)) (input written : List ℕ) (out : Seen) (line : List ℕ) (status : ℕ) : Type 0 where
   pub command : Command
-  pub is_command : IsCommand words command
-  pub few : length input ≤ 2 ^ 20
+  pub is_command : GivesCommand words command
+  pub few : reads_source command ≡ true → length input ≤ 2 ^ 20
   pub answer : Answered
   pub is : IsAnswer command input answer
   pub status_is : status ≡ answer.status
@@ -49,5 +51,5 @@ pub record IsAnswerOver (words : List (List ℕ)) (input written : List ℕ) (ou
 abbrev pub IsSoundEnding : List (List ℕ) → List ℕ → List ℕ → Seen → List ℕ → ℕ → Type 0
 IsSoundEnding words input written out line status =
     IsUsageOver words written out line status
-    ⊎ (IsTooLongOver input written out line status
+    ⊎ (IsTooLongOver words input written out line status
     ⊎ (IsMemoryOver written out line status ⊎ IsAnswerOver words input written out line status))

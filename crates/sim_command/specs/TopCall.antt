@@ -1,14 +1,15 @@
 -- How a call of the program ends.
-use Rattle.std.specs.Prelude.{◌≡◌, ℕ, ◌<◌, ◌≤◌, ◌^◌, Option, None, Some, List, [], length, take, ◌⊎◌, Err}
+use Rattle.std.specs.Prelude.{◌≡◌, ℕ, true, false, ◌<◌, ◌≤◌, ◌^◌, Option, None, Some, List, [], length, take, ◌⊎◌, Err}
 use Rattle.sim_outside.specs.Faults.{Rose}
 use Rattle.sim_outside.specs.Sink.{GrowsBy}
 use Rattle.sim_outside.specs.ReadAll.{ReadsToEnd}
 use Rattle.sim_outside.specs.declared.reading.ReadEnd.TheVariants.{ReadFault, TooLong}
 use Rattle.sim_report.specs.declared.fault.Fault.TheVariants as faults
 use Rattle.sim_command.specs.declared.answered.Answered.{Answered}
-use Rattle.sim_command.specs.declared.words.Command.{Command}
-use Rattle.sim_command.specs.Words.{IsCommand}
+use Rattle.call_words.specs.declared.command.Command.{Command}
+use Rattle.call_words.specs.CommandWords.{GivesCommand}
 use Rattle.sim_report.specs.FaultLine.{fault_text}
+use Rattle.sim_command.specs.Inputs.{reads_source, NeedSource}
 use Rattle.sim_command.specs.Answer.{IsAnswer}
 
 -- a device before a call and after it: the bytes left to read, or written so far, where it tells them, and how many of its calls
@@ -51,23 +52,30 @@ pub record WroteFront (device : Seen) (piece : List ℕ) : Type 0 where
 
 -- status 2: the words give no command, and nothing is read or written
 pub record EndsInUsage (words : List (List ℕ)) (source out : Seen) (line : List ℕ) (status : ℕ) : Type 0 where
-  pub no_command : (command : Command) → ¬ IsCommand words command
+  pub no_command : (command : Command) → ¬ GivesCommand words command
   pub status_is : status ≡ 2
   pub source_stays : IsAsBefore source
   pub out_stays : IsAsBefore out
   pub line_is : line ≡ fault_text faults.Usage
 
--- the words give a command
-abbrev pub AreCommand : List (List ℕ) → Type 0
-AreCommand words = (command : Command) × IsCommand words command
-
--- the words give a command, and the input was read to its end with no failure
-pub record IsReadThrough (words : List (List ℕ)) (source : Seen) : Type 0 where
-  pub command : AreCommand words
-  pub input : List ℕ
+-- the source was read to its end with no failure, and these are the bytes
+pub record IsReadToEnd (source : Seen) (input : List ℕ) : Type 0 where
   pub few : length input ≤ 2 ^ 20
   pub read : AreAllLeft source.bytes_before source.bytes_after input
   pub none_failed : NoneFailed source
+
+-- the words give a command that works on the bytes of the source, and it was read to its end with no failure
+pub record IsReadThrough (words : List (List ℕ)) (source : Seen) : Type 0 where
+  pub needed : NeedSource words
+  pub input : List ℕ
+  pub read : IsReadToEnd source input
+
+-- what the source gives to a command: all of its bytes, read to its end with no failure; or none, where the command doesn't work on
+-- them, and then the source is as before
+abbrev pub IsGiven : Command → Seen → List ℕ → Type 0
+IsGiven command source input =
+    ((reads_source command ≡ true) × IsReadToEnd source input)
+    ⊎ ((reads_source command ≡ false) × IsAsBefore source × (input ≡ []))
 
 -- the memory ran out, and nothing is written
 pub record IsOutOfMemory (out : Seen) (line : List ℕ) (status : ℕ) : Type 0 where
@@ -80,32 +88,30 @@ pub record EndsInMemory (words : List (List ℕ)) (source out : Seen) (line : Li
   pub ended : IsOutOfMemory out line status
   pub source_is : IsAsBefore source ⊎ IsReadThrough words source
 
--- status 4: a read failed
+-- status 4: the words give a command that works on the bytes of the source, and a read failed
 pub record EndsInReadFault (words : List (List ℕ)) (source out : Seen) (line : List ℕ) (status : ℕ) : Type 0 where
-  pub command : AreCommand words
+  pub needed : NeedSource words
   pub failed : Rose source.faults_before source.faults_after
   pub read : ReadsToEnd source.bytes_before source.bytes_after (2 ^ 20) (Err ReadFault)
   pub status_is : status ≡ 4
   pub out_stays : IsAsBefore out
   pub line_is : line ≡ fault_text faults.ReadFault
 
--- status 3: more than 2^20 bytes came, and no read failed
+-- status 3: the words give such a command, more than 2^20 bytes came, and no read failed
 pub record EndsTooLong (words : List (List ℕ)) (source out : Seen) (line : List ℕ) (status : ℕ) : Type 0 where
-  pub command : AreCommand words
+  pub needed : NeedSource words
   pub read : ReadsToEnd source.bytes_before source.bytes_after (2 ^ 20) (Err TooLong)
   pub none_failed : NoneFailed source
   pub status_is : status ≡ 3
   pub out_stays : IsAsBefore out
   pub line_is : line ≡ fault_text faults.TooLong
 
--- the input was read to its end with no failure, and this is the answer of the command to these bytes
+-- the words give a command, and this is its answer where the source gives it these bytes
 pub record IsAnswered (words : List (List ℕ)) (source : Seen) (answer : Answered) : Type 0 where
   pub command : Command
-  pub is_command : IsCommand words command
+  pub is_command : GivesCommand words command
   pub input : List ℕ
-  pub few : length input ≤ 2 ^ 20
-  pub read : AreAllLeft source.bytes_before source.bytes_after input
-  pub none_failed : NoneFailed source
+  pub given : IsGiven command source input
   pub is : IsAnswer command input answer
 
 -- status 0, 3 or 6: the answer's, and its bytes are written with no failure
@@ -148,7 +154,7 @@ IsDelivery answer out line status =
     ((status ≡ answer.status) × WroteAll out answer.out × (line ≡ answer.line))
     ⊎ ((status ≡ 5) × WroteFront out answer.out × (line ≡ fault_text faults.WriteFault))
 
--- the command answers the input, and the answer is delivered, or the memory ran out
+-- the command answers where the source has these bytes, and the answer is delivered, or the memory ran out
 abbrev pub IsInputEnding : Command → List ℕ → Seen → List ℕ → ℕ → Type 0
 IsInputEnding command input out line status =
     IsOutOfMemory out line status ⊎ ((answer : Answered) × IsAnswer command input answer × IsDelivery answer out line status)

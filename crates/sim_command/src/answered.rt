@@ -1,5 +1,5 @@
 //! What a command answers.
-ghost use Rattle.sim_command.specs.ModelAnswers.{IsRefusalAnswer};
+ghost use Rattle.sim_command.specs.AnswerForms.{IsFineAnswer, IsRefusalAnswer};
 
 use sim_outside::Bytes;
 use sim_report::{Fault, Line, fault_line};
@@ -11,6 +11,17 @@ pub struct Answered {
     pub status: u8,
     pub out: Bytes,
     pub line: Line,
+}
+
+/// An answer that writes a text.
+pub(crate) fn fine(text: Bytes) -> Answered
+    ensures { IsFineAnswer result text }
+{
+    Answered {
+        status: 0,
+        out: text,
+        line: Line::empty(),
+    }
 }
 
 /// An answer that writes nothing but a fault's line.

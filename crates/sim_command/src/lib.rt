@@ -4,13 +4,17 @@
 mod answer;
 mod answered;
 pub mod laws;
+mod model_answers;
 mod model_reading;
+mod model_runs;
 mod model_steps;
 mod top_call;
-mod words;
 
-pub use answer::{answer_check, answer_print, answer_steps, command_answer};
+pub use answer::{
+    answer_check, answer_gen, answer_print, answer_probe, answer_run_alone, answer_steps,
+    command_answer,
+};
 pub use answered::Answered;
+pub use call_words::{Command, WordsFault, read_words};
 pub use model_reading::{ModelFault, read_model};
 pub use top_call::pepaprobe;
-pub use words::{Command, WordsFault, read_words};

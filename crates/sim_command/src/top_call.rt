@@ -1,14 +1,15 @@
 //! The whole program, over any source and sinks.
-ghost use Rattle.std.specs.Prelude.{◌≡◌, ℕ, ◌≤◌, ◌^◌, List, length, map};
+ghost use Rattle.std.specs.Prelude.{◌≡◌, ℕ, true, ◌≤◌, ◌^◌, List, length, map};
 ghost use Rattle.std.specs.String.{string_bytes};
 ghost use Rattle.sim_report.specs.FaultLine.{fault_text};
-ghost use Rattle.sim_command.specs.Words.{IsCommand};
+ghost use Rattle.call_words.specs.CommandWords.{GivesCommand};
+ghost use Rattle.sim_command.specs.Inputs.{reads_source, IsCommandInRange};
 ghost use Rattle.sim_command.specs.TopCall.{IsEnding, IsInputEnding, IsDelivery, IsLineWritten, seen};
 ghost use Rattle.sim_command.specs.DeviceCalls.{IsReadOnce, IsWrittenOnce, IsDeliveredBy};
 
 use crate::answer::command_answer;
 use crate::answered::Answered;
-use crate::words::{Command, WordsFault, read_words};
+use call_words::{Command, WordsFault, read_words};
 use sim_outside::{ReadEnd, Sink, Source, read_all, write_all};
 use sim_report::{Fault, Line, fault_line};
 use std::alloc::Global;
@@ -23,19 +24,19 @@ pub(crate) struct Ending {
     pub line: Line,
 }
 
-/// Reads the input that the words ask for, writes the answer to `out` and the fault's line to `err`, and answers the
-/// status:
+/// Reads the input where the command that the words give works on one, writes the answer to `out` and the fault's line to `err`, and
+/// answers the status:
 ///
 /// - 0: the answer is written on `out` in full;
 /// - 1: the memory ran out;
 /// - 2: the words give no command;
-/// - 3: the input is too long, or has no model;
+/// - 3: the input is too long, or the text that the command works on has no model;
 /// - 4: a read failed;
 /// - 5: a write of the answer failed;
-/// - 6: the verdict on the model names a stop.
+/// - 6: for `steps` the verdict on the model names a stop; for `run` a replication stops.
 ///
 /// A failing `err` changes no status. The source is read to its end, to the first read that fails, or until it is too long, and not
-/// again; the answer is written to the first write that fails, and not again.
+/// again; `gen` and `run --made` don't call it. The answer is written to the first write that fails, and not again.
 pub fn pepaprobe<S: Source, K: Sink, E: Sink>(
     alloc: Global,
     words: &[String],
@@ -50,7 +51,8 @@ pub fn pepaprobe<S: Source, K: Sink, E: Sink>(
         line result
         × IsLineWritten
         (seen (E.written err.old) (E.written err.new) (E.faults err.old) (E.faults err.new)) line }
-    ensures source_calls { IsReadOnce S.one_read source.old result source.new }
+    ensures source_calls { IsReadOnce S.one_read (map string_bytes words.now)
+        source.old result source.new }
     ensures out_calls { IsWrittenOnce K.one_write out.old result out.new }
 {
     let Ending { status, line } = run(alloc, words, source, out);
@@ -64,29 +66,71 @@ fn run<S: Source, K: Sink>(alloc: Global, words: &[String], source: &mut S, out:
         (seen (S.left source.old) (S.left source.new) (S.faults source.old) (S.faults source.new))
         (seen (K.written out.old) (K.written out.new) (K.faults out.old) (K.faults out.new))
         result.line result.status }
-    ensures source_calls { IsReadOnce S.one_read source.old result.status source.new }
+    ensures source_calls { IsReadOnce S.one_read (map string_bytes words.now)
+        source.old result.status source.new }
     ensures out_calls { IsWrittenOnce K.one_write out.old result.status out.new }
 {
     match read_words(alloc, words) {
-        Ok(command) => run_command(alloc, command, source, out),
+        Ok(command) => run_command(alloc, &command, source, out),
         Err(WordsFault::Usage) => refused(2, &Fault::Usage),
         Err(WordsFault::Memory) => refused(1, &Fault::Memory),
     }
 }
 
-// Reads the input and answers it.
+// Answers the command, and reads its input first where it works on one.
 fn run_command<S: Source, K: Sink>(
     alloc: Global,
-    command: Command,
+    command: &Command,
     source: &mut S,
     out: &mut K,
 ) -> Ending
-    ensures ending { (words : List (List ℕ)) → IsCommand words command
+    requires { IsCommandInRange command.now }
+    ensures ending { (words : List (List ℕ)) → GivesCommand words command.now
         → IsEnding words
         (seen (S.left source.old) (S.left source.new) (S.faults source.old) (S.faults source.new))
         (seen (K.written out.old) (K.written out.new) (K.faults out.old) (K.faults out.new))
         result.line result.status }
-    ensures source_calls { IsReadOnce S.one_read source.old result.status source.new }
+    ensures source_calls { (words : List (List ℕ)) → GivesCommand words command.now
+        → IsReadOnce S.one_read words source.old result.status source.new }
+    ensures out_calls { IsWrittenOnce K.one_write out.old result.status out.new }
+{
+    if reads_source(command) {
+        run_over_source(alloc, command, source, out)
+    } else {
+        answer_input(alloc, command, b"", out)
+    }
+}
+
+// Whether a command works on the bytes of the source.
+fn reads_source(command: &Command) -> bool
+    ensures { result ≡ reads_source command.now }
+{
+    match command {
+        Command::Run { made, .. } => match made {
+            Some(_) => false,
+            None => true,
+        },
+        Command::Gen(_) => false,
+        Command::Steps | Command::Check | Command::Print | Command::Probe(_) => true,
+    }
+}
+
+// Reads the input and answers it.
+fn run_over_source<S: Source, K: Sink>(
+    alloc: Global,
+    command: &Command,
+    source: &mut S,
+    out: &mut K,
+) -> Ending
+    requires range { IsCommandInRange command.now }
+    requires reads { reads_source command.now ≡ true }
+    ensures ending { (words : List (List ℕ)) → GivesCommand words command.now
+        → IsEnding words
+        (seen (S.left source.old) (S.left source.new) (S.faults source.old) (S.faults source.new))
+        (seen (K.written out.old) (K.written out.new) (K.faults out.old) (K.faults out.new))
+        result.line result.status }
+    ensures source_calls { (words : List (List ℕ)) → GivesCommand words command.now
+        → IsReadOnce S.one_read words source.old result.status source.new }
     ensures out_calls { IsWrittenOnce K.one_write out.old result.status out.new }
 {
     match read_all(alloc, source, MOST_BYTES) {
@@ -97,10 +141,11 @@ fn run_command<S: Source, K: Sink>(
     }
 }
 
-// Answers an input that was read.
-fn answer_input<K: Sink>(alloc: Global, command: Command, input: &[u8], out: &mut K) -> Ending
-    requires { length input.now ≤ 2 ^ 20 }
-    ensures ending { IsInputEnding command input.now
+// Answers the command, where these are the bytes of the source.
+fn answer_input<K: Sink>(alloc: Global, command: &Command, input: &[u8], out: &mut K) -> Ending
+    requires bytes { length input.now ≤ 2 ^ 20 }
+    requires range { IsCommandInRange command.now }
+    ensures ending { IsInputEnding command.now input.now
         (seen (K.written out.old) (K.written out.new) (K.faults out.old) (K.faults out.new))
         result.line result.status }
     ensures out_calls { IsWrittenOnce K.one_write out.old result.status out.new }

@@ -3,3 +3,4 @@ pub mod StepsText
 pub mod TransitionsText
 pub mod CheckText
 pub mod Report
+pub mod ProbeText

@@ -1,4 +1,4 @@
-//! The texts of transitions, of a model's counts, of a summary and of faults.
+//! The texts of transitions, of a model's counts, of its probes, of a summary and of faults.
 //!
 //! A transition is a line `action rate target`; the counts of a model are one line; a fault is one line too, which needs no
 //! memory:
@@ -15,6 +15,7 @@ mod fault;
 mod fault_lines;
 mod line;
 mod probe_ask;
+mod probe_lines;
 mod report_text;
 mod transition_text;
 
@@ -23,5 +24,6 @@ pub use fault::{Fault, FaultName};
 pub use fault_lines::fault_line;
 pub use line::Line;
 pub use probe_ask::{Names, ProbeAsk};
+pub use probe_lines::probe_text;
 pub use report_text::report;
 pub use transition_text::steps_text;

@@ -6,7 +6,7 @@ use Rattle.sim_command.proofs.top_call.answer_input.Goals as goal
 pub returns-in-Ok-clause-out_calls : goal.returns-in-Ok-clause-out_calls
 returns-in-Ok-clause-out_calls g c =
     delivered g.K.Sink.one_write c.args.out.now c.in-Ok.answered.out c.in-Ok.answered.status c.deliver.result.status c.deliver.new.out
-    (no_fault c.args.command c.args.input.now c.in-Ok.answered c.in-Ok.ensures).1 c.deliver.ensures.out_calls
+    (no_fault c.args.command.now c.args.input.now c.in-Ok.answered c.in-Ok.ensures).1 c.deliver.ensures.out_calls
 
 pub returns-in-Err-clause-out_calls : goal.returns-in-Err-clause-out_calls
 returns-in-Err-clause-out_calls g c =
@@ -14,4 +14,4 @@ returns-in-Err-clause-out_calls g c =
 
 pub returns-in-Ok-clause-no_read_fault : goal.returns-in-Ok-clause-no_read_fault
 returns-in-Ok-clause-no_read_fault g c =
-    not_a_read_fault c.in-Ok.answered _ _ c.deliver.result.status (no_fault c.args.command c.args.input.now c.in-Ok.answered c.in-Ok.ensures).0 c.deliver.ensures.ending
+    not_a_read_fault c.in-Ok.answered _ _ c.deliver.result.status (no_fault c.args.command.now c.args.input.now c.in-Ok.answered c.in-Ok.ensures).0 c.deliver.ensures.ending

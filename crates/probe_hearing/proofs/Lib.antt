@@ -1,0 +1,4 @@
+pub mod WordsHeard
+pub mod TableLeads
+pub mod LabelLists
+pub mod LabelSteps

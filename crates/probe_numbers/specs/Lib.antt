@@ -1,0 +1,4 @@
+pub mod WholeNumbers
+pub mod BadCounts
+pub mod NumberedProbes
+pub mod PatternTables

@@ -1,0 +1,9 @@
+use Rattle.call_words.specs.declared.command.Command.TheVariants.{Print}
+use Rattle.sim_command.proofs.Answers.{text_is_answered}
+use Rattle.sim_command.proofs.answer.answer_print.Goals as goal
+
+pub returns-in-Ok : goal.returns-in-Ok
+returns-in-Ok c = text_is_answered Print c.args.input.now c.in-Ok.model c.print_answer.result c.in-Ok.ensures c.print_answer.ensures
+
+pub returns-in-Err : goal.returns-in-Err
+returns-in-Err c = c.no_model.ensures Print c.args.input.now c.in-Err.ensures

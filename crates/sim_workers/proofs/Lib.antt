@@ -1,0 +1,4 @@
+pub mod RunLists
+pub mod OneOutcome
+pub mod SomeOutcome
+pub mod FewPassages
